@@ -1,0 +1,4 @@
+//! The tokens of a unit and of the headers that it includes.
+#![tactic(auto)]
+
+pub mod token;

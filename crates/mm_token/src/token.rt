@@ -1,0 +1,43 @@
+// A unit's tokens.
+
+use mm_base::place::Place;
+use mm_base::text::Text;
+use sqlite_items::Items;
+
+/// What sort of token a piece of text is.
+#[derive(Clone, Copy, Debug, PartialEq, Eq)]
+pub enum Kind {
+    /// An identifier that names no class.
+    Word,
+    /// An identifier that stood after `class` or `struct`, there or before.
+    Class,
+    /// A reserved word.
+    Key,
+    /// A number, with its suffix.
+    Number,
+    /// Punctuation.
+    Mark,
+}
+
+/// One token, with the text that it has in its file.
+#[derive(Drop)]
+pub struct Token {
+    pub kind: Kind,
+    /// The value of a number; 0 for any other kind.
+    pub value: u32,
+    pub text: Text,
+    /// Where its first byte stands.
+    pub place: Place,
+}
+
+/// The tokens of a unit, each header's in place of the directive that includes it first.
+#[derive(Drop)]
+pub struct Tokens {
+    /// The unit's own file, and then each header in the order of first inclusion.
+    pub files: Items<Text>,
+    pub list: Items<Token>,
+    /// Just after the last byte of the unit's own file.
+    pub end: Place,
+    /// The bytes of all these files.
+    pub bytes: u64,
+}
