@@ -1,0 +1,5 @@
+pub mod Tree
+pub mod View
+pub mod Memory
+pub mod CMeaning
+pub mod CRun

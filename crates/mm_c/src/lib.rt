@@ -1,0 +1,4 @@
+//! The C that is written: its trees, their spelling, and what they mean.
+#![tactic(auto)]
+
+pub mod tree;
