@@ -1,2 +1,2 @@
-//! Runs under a clock, on which the meaning of the source and that of C stand.
+//! Checked programs: their trees and what they mean. Definitions alone; `specs/Lib.antt` lists them in the order of reading.
 #![tactic(auto)]

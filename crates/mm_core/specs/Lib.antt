@@ -1,0 +1,5 @@
+pub mod Tree
+pub mod State
+pub mod Meaning
+pub mod Run
+pub mod Valid
