@@ -1,5 +1,5 @@
 -- When a run of the source and a run of C agree. (Own.)
-use Rattle.std.specs.Prelude.{◌≡◌, ℕ, ℤ, pos, IsTrue, List, [], ◌∷◌}
+use Rattle.std.specs.Prelude.{◌≡◌, ℕ, ℤ, pos, IsTrue, List, [], ◌∷◌, Option, Some}
 use Rattle.mm_base.specs.Num.{is_int, code_of}
 use Rattle.mm_meaning.specs.Run.{Run, Gives, Stops}
 use Rattle.mm_core.specs.State as source
@@ -39,6 +39,25 @@ abbrev pub in_c : Value → memory.Value
 in_c (Number z) = memory.Int z
 in_c Nothing = memory.Int (pos 0)
 
--- The states correspond: one world.
+-- an input, which is a list of numbers that an `int` holds
+abbrev pub IsInput : List ℤ → Type 0
+IsInput [] = Unit {0}
+IsInput (z ∷ zs) = IsTrue (is_int z) × IsInput zs
+
+-- The states correspond: one world, with an input in it.
 pub record States (s : source.State) (u : c.State) : Type 0 where
   pub world : s.world ≡ u.world
+  pub input : IsInput s.world.input
+
+-- A result of a call and the one of the C call: the same value, of its type, in states that correspond.
+pub record SameResult (type : ValueType) (v : Value) (s : source.State) (r : Option memory.Value) (u : c.State) : Type 0 where
+  pub value : r ≡ Some (in_c v)
+  pub fits : Fits type v
+  pub states : States s u
+
+abbrev pub OneWorld : source.State → c.State → Type 0
+OneWorld s u = s.world ≡ u.world
+
+-- a call of the source and one of C
+abbrev pub Alike : ValueType → Run by.Stop source.State Value → Run c.Stop c.State (Option memory.Value) → Type 0
+Alike type = Agree OneWorld (SameResult type)

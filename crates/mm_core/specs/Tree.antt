@@ -1,6 +1,6 @@
 -- The trees of a checked program. A checked tree has no names of variables or types left to look up, and each
 -- conversion stands in it. (The forms of ISO/IEC 14882, 5 and 6, after checking.)
-use Rattle.std.specs.Prelude.{ℕ, ℤ, List}
+use Rattle.std.specs.Prelude.{ℕ, ℤ, List, [], ◌∷◌, codes}
 use Rattle.mm_base.specs.declared.world.Builtin.{Builtin}
 
 -- an operator on two numbers of one type
@@ -42,3 +42,7 @@ pub record Function : Type 0 where
 -- A program, whose functions are cited by their numbers.
 pub record Program : Type 0 where
   pub functions : List Function
+
+-- the program whose one function is `main`, with these statements
+abbrev pub program_of : Stmts → Program
+program_of ss = record { functions = record { name = codes "main"; body = ss } ∷ [] }

@@ -1,0 +1,5 @@
+pub mod Names
+pub mod Ints
+pub mod Exprs
+pub mod Sum
+pub mod Builtins
