@@ -7,3 +7,4 @@ pub mod Printing
 pub mod Memory
 pub mod CMeaning
 pub mod CRun
+pub mod Laws
