@@ -1,6 +1,6 @@
 -- The run of a C program on an input, with a bound on its steps. (Own.)
 use Rattle.std.specs.Prelude.{ℕ, ℤ, List, [], Option, Some, None, codes}
-use Rattle.mm_base.specs.World.{World, world_of}
+use Rattle.mm_base.specs.World.{world_of}
 use Rattle.mm_meaning.specs.Run.{Run, Gives, Stops}
 use Rattle.mm_c.specs.Tree.{Program}
 use Rattle.mm_c.specs.Memory.{Value, Int, Unsigned, Long, Null, At}

@@ -1,5 +1,10 @@
 pub mod Tree
 pub mod View
+pub mod Tokens
+pub mod WellFormed
+pub mod Spelling
+pub mod Printing
 pub mod Memory
 pub mod CMeaning
 pub mod CRun
+pub mod Laws

@@ -1,6 +1,6 @@
 -- What C's values are, and the memory that its pointers point to: numbered blocks, each with a size and with the
 -- values that were stored in it. (ISO/IEC 14882, 1.7 and 3.9 in outline; the rules on misuse are own.)
-use Rattle.std.specs.Prelude.{ℕ, ℤ, pos, ◌+◌, ◌-◌, ◌%◌, ◌&&◌, ◌||◌, ◌==◌, not, Bool, true, false, nat_le, nat_lt, List, [], ◌∷◌, ◌++◌, Option, Some, None, if◌then◌else◌, slice_get, slice_set}
+use Rattle.std.specs.Prelude.{ℕ, ℤ, pos, ◌+◌, ◌%◌, ◌&&◌, ◌||◌, ◌==◌, Bool, true, false, nat_le, List, [], ◌∷◌, Option, Some, None, if◌then◌else◌, slice_get, slice_set}
 use Rattle.std.specs.List.{list_all}
 
 -- A value: a number of one of three types, or a pointer, which is null or a block and an offset in it.

@@ -1,4 +1,5 @@
 //! The C that is written: its trees, their spelling, and what they mean.
 #![tactic(auto)]
 
+pub mod laws;
 pub mod tree;
