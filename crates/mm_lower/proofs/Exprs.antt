@@ -59,6 +59,6 @@ module _ (calls : c.Calls) (arrays : c.Arrays) where
   negative_gives true n u k e h = ap (λ m. Gives (memory.Int (negsuc m)) u k) (let same : 2147483647 ≡ n = grind arith in same)
   negative_gives false n u k e h = rw (negated n) (ap (λ (b : Bool). (if b then runs.pure (memory.Int (negsuc n)) else c.stuck) u k) h)
 
-  right_gives : (z : ℤ) (u : c.Store) (k : ℕ) → IsTrue (is_int z) → c.right_of calls arrays (right_of z) u k ≡ Gives (memory.Int z) u k
+  pub right_gives : (z : ℤ) (u : c.Store) (k : ℕ) → IsTrue (is_int z) → c.right_of calls arrays (right_of z) u k ≡ Gives (memory.Int z) u k
   right_gives (pos n) u k h = refl
   right_gives (negsuc n) u k h = negative_gives (n == greatest) n u k refl h
