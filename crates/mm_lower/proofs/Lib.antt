@@ -5,3 +5,6 @@ pub mod Sum
 pub mod Builtins
 pub mod Nodes
 pub mod Stmts
+pub mod Programs
+pub mod Locals
+pub mod Fits

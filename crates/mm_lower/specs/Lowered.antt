@@ -117,16 +117,16 @@ abbrev mutual
 
 -- ---- the program
 
--- the locals below a number
-abbrev pub locals_below : ℕ → List (List ℕ)
-locals_below zero = []
-locals_below (suc n) = locals_below n ++ local n ∷ []
+-- as many locals as a number says, from t on
+abbrev pub locals_from : ℕ → ℕ → List (List ℕ)
+locals_from t zero = []
+locals_from t (suc n) = local t ∷ locals_from (suc t) n
 
 -- `main`, which gives 0 where its statements come to their end
 abbrev pub lowered_main : Stmts → c.Function
 lowered_main ss = record {
   name = codes "main";
-  body = c.block (locals_below (reach_stmts ss)) (lowered_stmts 0 ss ⨾ just (c.return (c.number 0)));
+  body = c.block (locals_from 0 (reach_stmts ss)) (lowered_stmts 0 ss ⨾ just (c.return (c.number 0)));
 }
 
 -- The program of a `main` with these statements.
