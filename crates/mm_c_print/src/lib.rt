@@ -1,0 +1,7 @@
+//! The C text of a program.
+#![tactic(auto, using(crate::proofs::Texts::text_rules))]
+
+mod statements;
+mod tokens;
+
+pub use statements::print;
