@@ -1,0 +1,12 @@
+//! The commands: from the words and the bytes of a unit to a C text.
+#![tactic(auto)]
+
+mod link;
+#[tactic(auto, using(crate::proofs::Codes::lower_rules))]
+mod lower;
+mod parse;
+mod scan;
+mod top;
+mod words;
+
+pub use top::mm_main;

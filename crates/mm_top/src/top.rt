@@ -1,0 +1,98 @@
+// The top call.
+
+ghost use Rattle.std.specs.Prelude.{◌≡◌, ◌++◌, IfOk, map, string_bytes};
+ghost use Rattle.mm_top.specs.Command.{command};
+ghost use Rattle.mm_top.specs.Headline.{message_of, status_of, Reports, Answers};
+
+use crate::link::{Ending, link};
+use crate::words::read_words;
+use mm_base::outside::{Files, Sink, Source};
+use mm_base::writing::{WriteEnd, put_all};
+use std::alloc::{AllocError, Global};
+
+fn joined(alloc: Global, front: &[u8], name: &str, back: &[u8]) -> Result<Vec<u8>, AllocError>
+    ensures { IfOk result (λ text. text.items ≡ front.now ++ name.now ++ back.now) }
+{
+    let mut text = Vec::from_slice(alloc, front)?;
+    text.extend_from_slice(name.as_bytes())?;
+    text.extend_from_slice(back)?;
+    Ok(text)
+}
+
+fn message(alloc: Global, ending: Ending, name: &str) -> Result<Vec<u8>, AllocError>
+    ensures { IfOk result (λ text. text.items ≡ message_of ending name.now) }
+{
+    match ending {
+        Ending::Done => Ok(Vec::new(alloc)),
+        Ending::Fault => joined(alloc, b"", name, b":1:1: N0\n"),
+        Ending::Absent => joined(alloc, b"mmc: no file ", name, b"\n"),
+        Ending::ReadFailed => joined(alloc, b"mmc: read failed ", name, b"\n"),
+        Ending::TooLong => joined(alloc, b"", name, b": longer than 1048576 bytes\n"),
+        Ending::WriteFailed => Vec::from_slice(alloc, b"mmc: write failed\n"),
+        Ending::NoMemory => Vec::from_slice(alloc, b"mmc: no memory\n"),
+    }
+}
+
+fn status(ending: Ending) -> u8
+    ensures { result ≡ status_of ending }
+{
+    match ending {
+        Ending::Done => 0,
+        Ending::Fault => 1,
+        Ending::Absent => 3,
+        Ending::ReadFailed => 3,
+        Ending::TooLong => 13,
+        Ending::WriteFailed => 4,
+        Ending::NoMemory => 9,
+    }
+}
+
+// Puts the message of a status on err.
+fn report<E: Sink>(err: &mut E, due: u8, message: &[u8]) -> u8
+    ensures { Reports due message.now result (record { got = E.got err.old; got' = E.got err.new; faults = E.faults err.old; faults' = E.faults err.new }) }
+{
+    match put_all(err, message) {
+        WriteEnd::Done => due,
+        WriteEnd::Failed => due,
+        WriteEnd::NoMemory => 9,
+    }
+}
+
+fn finish<E: Sink>(alloc: Global, ending: Ending, name: &str, err: &mut E) -> u8
+    ensures { Reports (status_of ending) (message_of ending name.now) result (record { got = E.got err.old; got' = E.got err.new; faults = E.faults err.old; faults' = E.faults err.new }) }
+{
+    match message(alloc, ending, name) {
+        Ok(text) => report(err, status(ending), text.as_slice()),
+        Err(_) => report(err, 9, b"mmc: no memory\n"),
+    }
+}
+
+/// Does what the words ask, and answers the exit status.
+///
+/// `words` are those after the program's name. The text that is asked for goes to `out`, messages to `err`; `input` is
+/// what a program that is run would read, and `link` runs none. The statuses: 0 done, 1 the file's text is refused, 2 the
+/// words are no command, 3 the file could not be read, 4 the text could not be written, 9 no memory, 13 the file is too long.
+pub fn mm_main<F: Files, I: Source, O: Sink, E: Sink>(
+    alloc: Global,
+    words: &[String],
+    files: &mut F,
+    input: &mut I,
+    out: &mut O,
+    err: &mut E,
+) -> u8
+    ensures answers { Answers result (command (map string_bytes words.now))
+        (record { held = F.held files.old; faults = F.faults files.old; faults' = F.faults files.new; drawn = F.drawn files.old; drawn' = F.drawn files.new })
+        (record { got = O.got out.old; got' = O.got out.new; faults = O.faults out.old; faults' = O.faults out.new })
+        (record { got = E.got err.old; got' = E.got err.new; faults = E.faults err.old; faults' = E.faults err.new }) }
+    ensures input_left { I.left input.new ≡ I.left input.old }
+    ensures input_drawn { I.drawn input.new ≡ I.drawn input.old }
+    ensures input_faults { I.faults input.new ≡ I.faults input.old }
+{
+    match read_words(words) {
+        None => report(err, 2, b"mmc: usage\n"),
+        Some(name) => {
+            let ending = link(alloc, name, files, out);
+            finish(alloc, ending, name, err)
+        }
+    }
+}
