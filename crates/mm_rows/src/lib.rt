@@ -1,0 +1,5 @@
+//! Whole commands over objects in memory: rows that say what a user gets. It holds tests alone.
+#![tactic(auto)]
+
+#[cfg(test)]
+mod tests;
