@@ -6,3 +6,4 @@ pub mod Codes
 pub mod Small
 pub mod LinkLaws
 pub mod AnswersLaws
+pub mod Rows

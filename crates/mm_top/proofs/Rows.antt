@@ -1,0 +1,28 @@
+-- What the C program of `int main() { mm_put(1 + 2); return 0; }` does, and that of a sum past the greatest `int`.
+use Rattle.std.proofs.Common.{◌≡◌, ℕ, ◌≤◌, ◌^◌, List, [], ◌∷◌, refl, ◌∙◌, ap, arith}
+use Rattle.std.specs.Prelude.{pos}
+use Rattle.mm_core.specs.Tree.{program_of}
+use Rattle.mm_core.specs.Valid.{AreValidStmts}
+use Rattle.mm_core.specs.Run.{source_run}
+use Rattle.mm_c.specs.CRun.{c_run, Ended, TrappedBy, GoesOn}
+use Rattle.mm_agree.specs.Translates.{outcome_in_c}
+use Rattle.mm_lower.specs.Lowered.{lowered_program, reach_stmts}
+use Rattle.mm_lower.proofs.Programs.{translates}
+use Rattle.mm_top.specs.declared.parse.Stmt.{Stmt}
+use Rattle.mm_top.specs.declared.parse.Stmt.TheVariants.{Put, Return}
+use Rattle.mm_top.specs.Grammar.{checked}
+
+abbrev sum : ℕ → ℕ → List Stmt
+sum a b = Put (record { first = a; more = b ∷ [] }) ∷ Return (record { first = 0; more = [] }) ∷ []
+
+-- at a bound of one step it ends with 0, and has put 3
+pub it_puts_three : c_run (lowered_program (checked (sum 1 2))) [] 1 ≡ record { finish = Ended (pos 0); put = pos 3 ∷ [] }
+it_puts_three = (translates (checked (sum 1 2)) (((refl, ((refl, refl, refl, refl), tt)), ((refl, refl), tt))) (let small : 3 ≤ 2 ^ 32 = omega arith in small)).agrees [] 1 tt
+
+-- at a bound of none it goes on, and has put nothing
+pub it_goes_on : c_run (lowered_program (checked (sum 1 2))) [] 0 ≡ record { finish = GoesOn; put = [] }
+it_goes_on = refl
+
+-- a sum past the greatest `int` traps with 1, and puts nothing
+pub it_traps : c_run (lowered_program (checked (sum 2147483647 1))) [] 1 ≡ record { finish = TrappedBy 1; put = [] }
+it_traps = (translates (checked (sum 2147483647 1)) (((refl, ((refl, refl, refl, refl), tt)), ((refl, refl), tt))) (let small : 3 ≤ 2 ^ 32 = omega arith in small)).agrees [] 1 tt
