@@ -1,12 +1,12 @@
 -- What a load gives after a store.
-use Rattle.std.proofs.Common.{◌≡◌, ◌≢◌, ℕ, ◌+◌, ◌%◌, ◌<◌, ◌≤◌, ◌⊎◌, inl, inr, Bool, true, false, ◌&&◌, ◌||◌, if◌then◌else◌, List, [], ◌∷◌, ◌++◌, length, map, Option, Some, None, refl, sym, ap, ◌∙◌, arith, length-append, eqb, leb, ⊎_elim, slice_get, slice_set}
+use Rattle.std.proofs.Common.{◌≡◌, ◌≢◌, ℕ, ◌+◌, ◌%◌, ◌<◌, ◌≤◌, ◌⊎◌, ◌↔◌, inl, inr, Bool, true, false, ◌&&◌, ◌||◌, if◌then◌else◌, List, [], ◌∷◌, ◌++◌, length, map, Option, Some, None, refl, sym, ap, ◌∙◌, arith, length-append, eqb, leb, ⊎_elim, slice_get, slice_set}
 use Rattle.std.proofs.lemmas.Bool.{cases_Bool, false≢true, le-leb, leb-true, eqb-true, eqb-false, ne_eqb}
 use Rattle.std.proofs.lemmas.Bool.Decides.{leb_tells}
 use Rattle.std.proofs.lemmas.Option.{slice_get-get_or, slice_get_past, slice_get_within, get_or_from_slice_get}
 use Rattle.std.proofs.lemmas.List.{get_or-set_same, get_or-set_other, length-set}
 use Rattle.std.proofs.Math.Seq.{map-set_same, get_or-append_seam}
-use Rattle.mm_c.specs.Memory.{Value, Int, Unsigned, Long, Null, At, Kind, IntCell, UnsignedCell, ShortCell, PointerCell, width_of, zero_of, same_kind, Cell, Block, is_apart, has_room, latest, value_or, load_in, with_cell, store_in, store, fresh}
-use Rattle.mm_c.specs.Laws.{LoadsWhatWasStored, LoadsAsBefore, StoreKeepsSizes, FreshIsZero, LiesInBlock, LoadsInBlock, StoresInBlock, NoOtherLoad}
+use Rattle.mm_c.specs.Memory.{Value, Int, Unsigned, Long, Null, At, Kind, IntCell, UnsignedCell, ShortCell, PointerCell, width_of, zero_of, same_kind, Cell, Block, is_apart, has_room, latest, value_or, load_in, load, with_cell, store_in, store, fresh}
+use Rattle.mm_c.specs.Laws.{LoadsWhatWasStored, LoadsAsBefore, StoreKeepsSizes, FreshIsZero, LiesInBlock, LoadsInBlock, StoresInBlock, NoOtherLoad, StuckStays, StuckAlike}
 use Rattle.mm_c.proofs.Written.{and_left, and_right, both}
 
 -- ---- lists
@@ -260,3 +260,64 @@ no_other_load memory after kind kind' b o n o' n' v e near other =
     ap (load_in kind' (o' + n')) (block_after memory after b kind (o + n) v s)
     ∙ not_taken (has_room kind' (o' + n') (with_cell s.block kind (o + n) v)) _ None
     (blocked (leb (o' + n' + width_of kind') s.block.size && eqb ((o' + n') % width_of kind') 0) (is_apart (o' + n') (width_of kind') new) (eqb (o + n) (o' + n') && same_kind kind kind') _ touching unlike)
+
+-- ---- what stays stuck
+
+refused : {X : Type 0} (c : Bool) (y : X) → (if c then Some y else None) ≡ None → c ≡ false
+refused true y e = cc
+refused false y e = refl
+
+left_out : {X : Type 0} (c : Bool) (y : X) → c ≡ false → (if c then Some y else None) ≡ None
+left_out true y e = cc
+left_out false y e = refl
+
+still_false : (a new cells : Bool) → (a && cells) ≡ false → (a && (new && cells)) ≡ false
+still_false true true cells h = h
+still_false true false cells h = refl
+still_false false new cells h = refl
+
+stuck_again : (kind kind' : Kind) (offset offset' : ℕ) (x : Block) (v : Value) → load_in kind' offset' (Some x) ≡ None → load_in kind' offset' (Some (with_cell x kind offset v)) ≡ None
+stuck_again kind kind' offset offset' x v e =
+    left_out (has_room kind' offset' (with_cell x kind offset v)) (value_or (zero_of kind') (latest offset' (record { offset = offset; kind = kind; value = v } ∷ x.cells)))
+    (still_false (leb (offset' + width_of kind') x.size && eqb (offset' % width_of kind') 0) _ _
+    (refused (has_room kind' offset' x) (value_or (zero_of kind') (latest offset' x.cells)) e))
+
+stays : (memory after : List Block) (kind kind' : Kind) (b c offset offset' : ℕ) (v : Value) → Stored memory after b kind offset v → load_in kind' offset' (slice_get memory c) ≡ None → load_in kind' offset' (slice_get after c) ≡ None
+stays memory after kind kind' b c offset offset' v s h =
+    ⊎_elim
+    (λ t. let e = eqb-true b c t in
+    ap (λ d. load_in kind' offset' (slice_get after d)) (sym e)
+    ∙ ap (load_in kind' offset') (block_after memory after b kind offset v s)
+    ∙ stuck_again kind kind' offset offset' s.block v (ap (load_in kind' offset') (sym s.there) ∙ ap (λ d. load_in kind' offset' (slice_get memory d)) e ∙ h))
+    (λ t. other_block memory after b c offset offset' kind kind' v s (eqb-false b c t) ∙ h)
+    (cases_Bool (eqb b c))
+
+stays_at : (memory after : List Block) (kind kind' : Kind) (b o : ℕ) (q : Value) (n m : ℕ) (v : Value) → store memory kind (At b o) n v ≡ Some after → load memory kind' q m ≡ None → load after kind' q m ≡ None
+stays_at memory after kind kind' b o (At c o') n m v e h = stays memory after kind kind' b c (o + n) (o' + m) v (stored memory after b o n kind v e) h
+stays_at memory after kind kind' b o Null n m v e h = refl
+stays_at memory after kind kind' b o (Int z) n m v e h = refl
+stays_at memory after kind kind' b o (Unsigned k) n m v e h = refl
+stays_at memory after kind kind' b o (Long z) n m v e h = refl
+
+pub stuck_stays : StuckStays
+stuck_stays memory after kind kind' (At b o) q n m v e h = stays_at memory after kind kind' b o q n m v e h
+stuck_stays memory after kind kind' Null q n m v e h = cc
+stuck_stays memory after kind kind' (Int z) q n m v e h = cc
+stuck_stays memory after kind kind' (Unsigned k) q n m v e h = cc
+stuck_stays memory after kind kind' (Long z) q n m v e h = cc
+
+alike_in : (memory : List Block) (kind : Kind) (b offset : ℕ) (v : Value) (found : Option Block) → (store_in memory b kind offset v found ≡ None) ↔ (load_in kind offset found ≡ None)
+alike_in memory kind b offset v None = (λ e. refl, λ e. refl)
+alike_in memory kind b offset v (Some x) =
+    let held = value_or (zero_of kind) (latest offset x.cells) in
+    let next = slice_set memory b (with_cell x kind offset v) in (
+      λ e. left_out (has_room kind offset x) held (refused (has_room kind offset x) next e),
+      λ e. left_out (has_room kind offset x) next (refused (has_room kind offset x) held e),
+    )
+
+pub stuck_alike : StuckAlike
+stuck_alike memory kind (At b o) n v = alike_in memory kind b (o + n) v (slice_get memory b)
+stuck_alike memory kind Null n v = (λ e. refl, λ e. refl)
+stuck_alike memory kind (Int z) n v = (λ e. refl, λ e. refl)
+stuck_alike memory kind (Unsigned m) n v = (λ e. refl, λ e. refl)
+stuck_alike memory kind (Long z) n v = (λ e. refl, λ e. refl)

@@ -1,5 +1,5 @@
 -- The laws of this crate: of the spelling of programs, and of the memory.
-use Rattle.std.specs.Prelude.{◌≡◌, ◌≢◌, ℕ, ◌+◌, ◌%◌, ◌≤◌, ◌⊎◌, List, [], ◌∷◌, ◌++◌, length, map, slice_get, Some, None}
+use Rattle.std.specs.Prelude.{◌≡◌, ◌≢◌, ℕ, ◌+◌, ◌%◌, ◌≤◌, ◌⊎◌, ◌↔◌, List, [], ◌∷◌, ◌++◌, length, map, slice_get, Some, None}
 use Rattle.mm_c.specs.Tree.{Program}
 use Rattle.mm_c.specs.Spelling.{program_tokens, SpellsProgram}
 use Rattle.mm_c.specs.WellFormed.{IsWellFormed}
@@ -73,3 +73,13 @@ NoOtherLoad =
     store memory kind (At b o) n v ≡ Some after →
     (ShareNoByte b (o + n) kind b (o' + n') kind' → ⊥) → ((o + n ≡ o' + n') × (kind ≡ kind') → ⊥) →
     load after kind' (At b o') n' ≡ None
+
+-- What is stuck stays so whatever is stored.
+abbrev pub StuckStays : Type 0
+StuckStays =
+    (memory after : List Block) (kind kind' : Kind) (p q : Value) (n m : ℕ) (v : Value) →
+    store memory kind p n v ≡ Some after → load memory kind' q m ≡ None → load after kind' q m ≡ None
+
+-- A store is stuck exactly where a load is.
+abbrev pub StuckAlike : Type 0
+StuckAlike = (memory : List Block) (kind : Kind) (p : Value) (n : ℕ) (v : Value) → (store memory kind p n v ≡ None) ↔ (load memory kind p n ≡ None)

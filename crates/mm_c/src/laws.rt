@@ -1,6 +1,6 @@
 // Laws of this crate's definitions. Each is the contract of a function that does nothing.
 
-ghost use Rattle.mm_c.specs.Laws.{OneProgram, WrittenIsSpelled, LoadsWhatWasStored, LoadsAsBefore, StoreKeepsSizes, FreshIsZero, LoadsInBlock, StoresInBlock, NoOtherLoad};
+ghost use Rattle.mm_c.specs.Laws.{OneProgram, WrittenIsSpelled, LoadsWhatWasStored, LoadsAsBefore, StoreKeepsSizes, FreshIsZero, LoadsInBlock, StoresInBlock, NoOtherLoad, StuckStays, StuckAlike};
 
 /// The law: a text spells at most one program.
 pub fn one_program()
@@ -21,4 +21,6 @@ pub fn memory_laws()
     ensures loads_within { LoadsInBlock }
     ensures stores_within { StoresInBlock }
     ensures across { NoOtherLoad }
+    ensures for_ever { StuckStays }
+    ensures alike { StuckAlike }
 {}
