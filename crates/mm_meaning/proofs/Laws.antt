@@ -1,6 +1,6 @@
 -- Laws of runs.
-use Rattle.std.proofs.Common.{◌≡◌, ℕ, zero, suc, ◌≤◌, refl, ap, arith}
-use Rattle.mm_meaning.specs.Run.{Run, Gives, Stops, From, then, pure, step, clocked, within}
+use Rattle.std.proofs.Common.{◌≡◌, refl}
+use Rattle.mm_meaning.specs.Run.{Run, Gives, Stops, From, then, pure}
 
 module _ {Stop S A : Type 0} where
   -- a result at once changes nothing before it
