@@ -1,5 +1,5 @@
 -- The state of a run of the source: what it computes with. (ISO/IEC 14882, 3.9.1, in outline.)
-use Rattle.std.specs.Prelude.{ℕ, ℤ, nat_eq, if◌then◌else◌}
+use Rattle.std.specs.Prelude.{ℕ, ℤ}
 use Rattle.mm_base.specs.World.{World}
 
 -- A value: an `int`, or the value of an expression of type `void`.

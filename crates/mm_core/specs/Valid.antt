@@ -1,10 +1,10 @@
 -- Which trees checking gives: the types of expressions, and what every node asks of its parts.
 -- (ISO/IEC 14882, 3.9.1, 5.2.2 and 6.6.3.)
-use Rattle.std.specs.Prelude.{◌≡◌, ℤ, IsTrue, List, [], ◌∷◌}
+use Rattle.std.specs.Prelude.{◌≡◌, IsTrue, List, [], ◌∷◌}
 use Rattle.mm_base.specs.Num.{is_int}
 use Rattle.mm_base.specs.declared.world.Builtin.{Builtin}
 use Rattle.mm_base.specs.declared.world.Builtin.TheVariants.{Put, Get, More}
-use Rattle.mm_core.specs.Tree.{Operator, Add, Expr, int, binary, builtin, Exprs, no_exprs, expr_and, Stmt, block, run, return, Stmts, no_stmts, stmt_and, Function}
+use Rattle.mm_core.specs.Tree.{Expr, int, binary, builtin, Exprs, no_exprs, expr_and, Stmt, block, run, return, Stmts, no_stmts, stmt_and, Function}
 
 -- a type
 pub data ValueType : Type 0 where

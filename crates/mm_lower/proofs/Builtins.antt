@@ -1,11 +1,10 @@
 -- The code of a call of a built-in function asks the world the same.
-use Rattle.std.proofs.Common.{◌≡◌, ◌≢◌, ℕ, zero, suc, ◌+◌, ◌<◌, ◌^◌, List, [], ◌∷◌, map, refl, sym, ap, ◌∙◌, subst, arith, length}
-use Rattle.std.specs.Prelude.{ℤ, pos, negsuc, Bool, true, false, IsTrue, nat_lt, if◌then◌else◌, codes, Option, Some, None, Result, Ok, Err, slice_get}
+use Rattle.std.proofs.Common.{◌≡◌, ℕ, zero, suc, ◌<◌, ◌^◌, List, [], ◌∷◌, map, refl, ap, subst, length}
+use Rattle.std.specs.Prelude.{ℤ, pos, Bool, true, false, IsTrue, nat_lt, if◌then◌else◌, codes, Option, Some, None, slice_get}
 use Rattle.mm_base.specs.declared.world.Builtin.{Builtin}
 use Rattle.mm_base.specs.declared.world.Builtin.TheVariants.{Put, Get, More}
-use Rattle.mm_base.specs.declared.num.Trap.{Trap}
 use Rattle.mm_base.specs.Num.{is_int}
-use Rattle.mm_base.specs.World.{World, call_builtin, got, with_put, with_taken}
+use Rattle.mm_base.specs.World.{call_builtin, got, with_put}
 use Rattle.mm_meaning.specs.Run as runs
 use Rattle.mm_meaning.specs.Run.{Run, Gives, Stops, then}
 use Rattle.mm_core.specs.State.{Value, Number, Nothing, State, Store}
@@ -17,8 +16,8 @@ use Rattle.mm_c.specs.CMeaning as c
 use Rattle.mm_c.specs.CMeaning.{Flow, Next, with_name, flows_of, atom_of}
 use Rattle.mm_c.specs.Tree as tree
 use Rattle.mm_c.specs.Tree.{Code, done, do_then, ◌⨾◌, just}
-use Rattle.mm_agree.specs.Agree.{Agree, both_give, both_stop, Fits, AllFit, in_c, IsInput, States, SameResult, Alike}
-use Rattle.mm_agree.proofs.Steps.{SameWorld, AgreeOn}
+use Rattle.mm_agree.specs.Agree.{both_give, both_stop, AllFit, in_c, IsInput, States, Alike}
+use Rattle.mm_agree.proofs.Steps.{AgreeOn}
 use Rattle.mm_lower.specs.Lowered.{local, builtin_code}
 use Rattle.mm_lower.proofs.Exprs.{Holds, holds_written}
 

@@ -1,15 +1,12 @@
 -- The code of an expression gives its value.
-use Rattle.std.proofs.Common.{◌≡◌, ◌≢◌, ℕ, zero, suc, ◌+◌, ◌<◌, ◌≤◌, ◌^◌, max, List, [], ◌∷◌, map, refl, sym, ap, ap₂, ◌∙◌, subst, arith}
-use Rattle.std.specs.Prelude.{ℤ, pos, negsuc, ◌+ℤ◌, ◌-ℤ◌, Bool, true, false, not, IsTrue, int_lt, if◌then◌else◌, ◌==◌, codes, Option, Some, None, slice_get}
-use Rattle.mm_base.specs.declared.world.Builtin.{Builtin}
-use Rattle.mm_base.specs.declared.world.Builtin.TheVariants.{Put, Get, More}
+use Rattle.std.proofs.Common.{◌≡◌, ◌≢◌, ℕ, suc, ◌<◌, ◌^◌, List, [], ◌∷◌, map, refl, ap, ◌∙◌, subst, arith}
+use Rattle.std.specs.Prelude.{ℤ, pos, negsuc, Bool, true, false, IsTrue, if◌then◌else◌, ◌==◌}
 use Rattle.mm_base.specs.Num.{is_int}
-use Rattle.mm_base.specs.World.{World}
 use Rattle.mm_meaning.specs.Run as runs
 use Rattle.mm_meaning.specs.Run.{Run, Gives, Stops, then}
-use Rattle.mm_core.specs.Tree.{Operator, Add, Expr, int, binary, builtin, Exprs, no_exprs, expr_and}
-use Rattle.mm_core.specs.State.{Value, Number, Nothing, State, Store}
-use Rattle.mm_core.specs.Valid.{ValueType, void_type, int_type, parameters_of, result_of, type_of, types_of, IsValid, AreValid}
+use Rattle.mm_core.specs.Tree.{Exprs}
+use Rattle.mm_core.specs.State.{Value, Store}
+use Rattle.mm_core.specs.Valid.{ValueType, int_type}
 use Rattle.mm_core.specs.Meaning as source
 use Rattle.mm_core.specs.Meaning.{Calls, number_of, numbers_of, operate, ask, outside, value_of, values_of}
 use Rattle.mm_c.specs.declared.tree.COperator.TheVariants as by
@@ -18,11 +15,11 @@ use Rattle.mm_c.specs.CMeaning as c
 use Rattle.mm_c.specs.CMeaning.{Flow, Next, with_name, flows_of, flow_in, atom_of, bit_of}
 use Rattle.mm_c.specs.Tree as tree
 use Rattle.mm_c.specs.Tree.{Code, done, do_then, ◌⨾◌, just, name, number}
-use Rattle.mm_agree.specs.Agree.{Agree, both_give, both_stop, Fits, AllFit, in_c, IsInput, States}
-use Rattle.mm_agree.proofs.Steps.{flows-⨾, SameWorld, AgreeOn, after, agree_map, if_step, only_step, gives_step}
-use Rattle.mm_lower.specs.Lowered.{local, greatest, value_in, block_of, right_of, overflow_if, sum_test, operator, values_from, builtin_code, lowered, lowered_all, reach, reach_all}
+use Rattle.mm_agree.specs.Agree.{Agree, Fits, AllFit, in_c, States}
+use Rattle.mm_agree.proofs.Steps.{flows-⨾, SameWorld}
+use Rattle.mm_lower.specs.Lowered.{local, greatest, block_of, right_of, values_from}
 use Rattle.mm_lower.proofs.Names.{written, kept}
-use Rattle.mm_lower.proofs.Ints.{greatest_int, least_int, bounds, within, sum_up, sum_down, room_up, room_down, negated}
+use Rattle.mm_lower.proofs.Ints.{negated}
 
 -- The local t holds the value, where its type has one, and the locals below t hold what they held in `old`.
 pub record Holds (t : ℕ) (old : c.Names) (type : ValueType) (v : Value) (s : Store) (u : c.Store) : Type 0 where

@@ -1,16 +1,16 @@
 -- The program of a `main` is well formed.
-use Rattle.std.proofs.Common.{◌≡◌, ◌≢◌, ℕ, zero, suc, ◌+◌, ◌<◌, ◌≤◌, ◌^◌, max, List, [], ◌∷◌, ◌++◌, refl, sym, ap, ap₂, ◌∙◌, arith, subst, lit<, lit≤, append-nil}
-use Rattle.std.specs.Prelude.{ℤ, pos, negsuc, IsTrue, Bool, true, false, ◌==◌, if◌then◌else◌, codes}
+use Rattle.std.proofs.Common.{◌≡◌, ℕ, suc, ◌+◌, ◌<◌, ◌≤◌, ◌^◌, List, [], ◌∷◌, ◌++◌, refl, arith, lit<, lit≤, append-nil}
+use Rattle.std.specs.Prelude.{ℤ, pos, negsuc, IsTrue, Bool, true, false, ◌==◌, if◌then◌else◌}
 use Rattle.mm_base.specs.declared.world.Builtin.{Builtin}
 use Rattle.mm_base.specs.declared.world.Builtin.TheVariants.{Put, Get, More}
 use Rattle.mm_base.specs.Num.{is_int}
 use Rattle.mm_core.specs.Tree.{Operator, Add, Expr, int, binary, builtin, Exprs, no_exprs, expr_and, Stmt, block, run, return, Stmts, no_stmts, stmt_and}
-use Rattle.mm_core.specs.Valid.{ValueType, void_type, int_type, parameters_of, type_of, types_of, IsValid, AreValid, IsValidStmt, AreValidStmts}
+use Rattle.mm_core.specs.Valid.{parameters_of, types_of, IsValid, AreValid, IsValidStmt, AreValidStmts}
 use Rattle.mm_c.specs.declared.tree.COperator.TheVariants as by
 use Rattle.mm_c.specs.Tree as c
 use Rattle.mm_c.specs.Tree.{Code, done, do_then, ◌⨾◌, just}
-use Rattle.mm_c.specs.WellFormed.{is_in, CodeFits, StmtFits, RightFits, AtomFits, code_locals, stmt_locals, code_depth, stmt_depth, depth_of, FunctionFits, IsWellFormed, AreLocals, locals_of}
-use Rattle.mm_lower.specs.Lowered.{local, greatest, value_in, block_of, right_of, trap_code, overflow_if, below_test, above_test, sum_test, operator, values_from, builtin_code, lowered, lowered_all, lowered_stmt, lowered_stmts, lowered_main, lowered_program, locals_from, reach, reach_all, reach_stmt, reach_stmts}
+use Rattle.mm_c.specs.WellFormed.{is_in, CodeFits, RightFits, AtomFits, code_locals, stmt_locals, code_depth, IsWellFormed}
+use Rattle.mm_lower.specs.Lowered.{local, greatest, value_in, right_of, overflow_if, sum_test, operator, values_from, builtin_code, lowered, lowered_all, lowered_stmt, lowered_stmts, lowered_program, locals_from, reach, reach_all, reach_stmt, reach_stmts}
 use Rattle.mm_lower.proofs.Locals.{are_locals, is_there}
 
 -- What code keeps, wherever locals below r are seen: it fits, has no locals of its own, and nests one block deep.
@@ -86,8 +86,8 @@ module _ (seen : List (List ℕ)) (r : ℕ) (small : r ≤ 2 ^ 31) (there : (x :
       let l0 : t < r = omega arith in
       let l1 : suc t < r = omega arith in
       keeps-⨾ seen (sum_test t (suc t) (suc (suc t)) ⨾ overflow_if (suc (suc t))) _
-        (keeps-⨾ seen (sum_test t (suc t) (suc (suc t))) (overflow_if (suc (suc t))) (keeps_test t (suc t) (suc (suc t)) l0 l1 low) (keeps_overflow (suc (suc t)) low))
-        (keeps_assign t (c.binary (value_in t) by.Add (value_in (suc t))) l0 (there t l0, there (suc t) l1))
+      (keeps-⨾ seen (sum_test t (suc t) (suc (suc t))) (overflow_if (suc (suc t))) (keeps_test t (suc t) (suc (suc t)) l0 l1 low) (keeps_overflow (suc (suc t)) low))
+      (keeps_assign t (c.binary (value_in t) by.Add (value_in (suc t))) l0 (there t l0, there (suc t) l1))
 
   -- the call of a built-in function on as many locals as it has parameters
   keeps_builtin : (f : Builtin) (t : ℕ) (es : Exprs) → t < r → types_of es ≡ parameters_of f → Keeps seen (builtin_code t f (values_from t es))

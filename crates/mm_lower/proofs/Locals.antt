@@ -1,12 +1,12 @@
 -- The locals of the code have names that locals may have, each its own.
-use Rattle.std.proofs.Common.{◌≡◌, ◌≢◌, ℕ, zero, suc, ◌+◌, ◌<◌, ◌≤◌, ◌^◌, List, [], ◌∷◌, ◌++◌, refl, sym, ap, ◌∙◌, arith}
-use Rattle.std.specs.Prelude.{Bool, true, false, ◌&&◌, ◌||◌, nat_eq, codes}
-use Rattle.std.specs.Str.{bytes_eq, all_ascii_digits}
-use Rattle.std.specs.List.{list_all, list_any}
+use Rattle.std.proofs.Common.{◌≡◌, ◌≢◌, ℕ, zero, suc, ◌+◌, ◌<◌, ◌≤◌, ◌^◌, List, [], ◌∷◌, ◌++◌, refl, arith}
+use Rattle.std.specs.Prelude.{Bool, true, false, nat_eq}
+use Rattle.std.specs.Str.{all_ascii_digits}
+use Rattle.std.specs.List.{list_all}
 use Rattle.std.specs.Char.{is_ascii_digit}
 use Rattle.std.specs.Fmt.{decimal}
 use Rattle.mm_c.specs.Tokens.{is_word_byte}
-use Rattle.mm_c.specs.WellFormed.{is_name, is_in, reserved, IsLocal, AreLocals}
+use Rattle.mm_c.specs.WellFormed.{is_in, reserved, IsLocal, AreLocals}
 use Rattle.mm_c.proofs.Words.{decimal_digits}
 use Rattle.mm_c.proofs.Written.{and_left, and_right, both}
 use Rattle.mm_lower.specs.Lowered.{local, locals_from}

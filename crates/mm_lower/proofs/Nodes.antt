@@ -1,24 +1,20 @@
 -- The code of every expression gives its value: one lemma a node, and the induction.
-use Rattle.std.proofs.Common.{◌≡◌, ◌≢◌, ℕ, zero, suc, ◌+◌, ◌<◌, ◌≤◌, ◌^◌, max, List, [], ◌∷◌, map, refl, sym, ap, ap₂, ◌∙◌, subst, arith}
-use Rattle.std.specs.Prelude.{ℤ, pos, negsuc, IsTrue}
+use Rattle.std.proofs.Common.{◌≡◌, ℕ, suc, ◌+◌, ◌<◌, ◌≤◌, ◌^◌, ◌∷◌, refl, sym, ap₂, ◌∙◌, subst, arith}
+use Rattle.std.specs.Prelude.{ℤ, IsTrue}
 use Rattle.mm_base.specs.declared.world.Builtin.{Builtin}
 use Rattle.mm_base.specs.declared.world.Builtin.TheVariants.{Put, Get, More}
 use Rattle.mm_base.specs.Num.{is_int}
-use Rattle.mm_meaning.specs.Run as runs
-use Rattle.mm_meaning.specs.Run.{Run, Gives, Stops}
 use Rattle.mm_core.specs.Tree.{Operator, Add, Expr, int, binary, builtin, Exprs, no_exprs, expr_and}
-use Rattle.mm_core.specs.State.{Value, Number, Nothing, State, Store}
-use Rattle.mm_core.specs.Valid.{ValueType, void_type, int_type, parameters_of, result_of, type_of, types_of, IsValid, AreValid}
-use Rattle.mm_core.specs.Meaning as source
+use Rattle.mm_core.specs.State.{Value, Number, Nothing, Store}
+use Rattle.mm_core.specs.Valid.{ValueType, void_type, int_type, parameters_of, type_of, types_of, IsValid, AreValid}
 use Rattle.mm_core.specs.Meaning.{Calls, number_of, operate, value_of, values_of}
 use Rattle.mm_c.specs.Memory as memory
 use Rattle.mm_c.specs.CMeaning as c
 use Rattle.mm_c.specs.CMeaning.{flows_of}
-use Rattle.mm_c.specs.Tree as tree
-use Rattle.mm_c.specs.Tree.{Code, done, ◌⨾◌, just}
+use Rattle.mm_c.specs.Tree.{done}
 use Rattle.mm_agree.specs.Agree.{both_give, Fits, AllFit, in_c, States}
 use Rattle.mm_agree.proofs.Steps.{AgreeOn, after, agree_map, gives_step}
-use Rattle.mm_lower.specs.Lowered.{local, right_of, operator, values_from, builtin_code, lowered, lowered_all, reach, reach_all}
+use Rattle.mm_lower.specs.Lowered.{local, right_of, operator, values_from, lowered, lowered_all, reach, reach_all}
 use Rattle.mm_lower.proofs.Exprs.{Holds, HoldsAll, AllInts, holds_written, right_gives}
 use Rattle.mm_lower.proofs.Sum.{add_agrees}
 use Rattle.mm_lower.proofs.Builtins.{builtin_agrees}
@@ -63,9 +59,9 @@ module _ (calls : Calls) (calls' : c.Calls) (arrays : c.Arrays) where
       after calls' arrays (lowered t a) _ _ _ _ _ u k (iha t s u k valid.2 low_a h) (λ x s1 u1 k1 p.
       after calls' arrays (lowered (suc t) b) _ _ _ _ _ u1 k1 (ihb (suc t) s1 u1 k1 valid.3 low_b p.states) (λ y s2 u2 k2 q.
       operator_agrees op t (number_of x) (number_of y) u.names s2 u2 k2 low_op (int_fits _ x valid.0 p.fits) (int_fits _ y valid.1 q.fits)
-        (let below : t < suc t = omega arith in q.kept t below ∙ p.value valid.0 ∙ int_value _ x valid.0 p.fits)
-        (q.value valid.1 ∙ int_value _ y valid.1 q.fits)
-        (λ z below. let below' : z < suc t = omega arith in q.kept z below' ∙ p.kept z below) q.states))
+      (let below : t < suc t = omega arith in q.kept t below ∙ p.value valid.0 ∙ int_value _ x valid.0 p.fits)
+      (q.value valid.1 ∙ int_value _ y valid.1 q.fits)
+      (λ z below. let below' : z < suc t = omega arith in q.kept z below' ∙ p.kept z below) q.states))
 
   call_agrees : (f : Builtin) (es : Exprs) → ClaimAll es → Claim (builtin f es)
   call_agrees f es ih t s u k valid low h =

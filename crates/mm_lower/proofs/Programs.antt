@@ -1,10 +1,8 @@
 -- The program of a `main` runs as it does: for every input and at every bound.
-use Rattle.std.proofs.Common.{◌≡◌, ◌≢◌, ℕ, zero, suc, ◌+◌, ◌<◌, ◌≤◌, ◌^◌, List, [], ◌∷◌, refl, sym, ap, ◌∙◌, arith, subst}
-use Rattle.std.specs.Prelude.{ℤ, pos, codes, Option, Some, None}
-use Rattle.mm_base.specs.World.{World, world_of}
-use Rattle.mm_meaning.specs.Run as runs
-use Rattle.mm_meaning.specs.Run.{Run, Gives, Stops, then}
-use Rattle.mm_core.specs.Tree.{Stmts, Function, Program, program_of}
+use Rattle.std.proofs.Common.{◌≡◌, ◌≢◌, ℕ, zero, suc, ◌+◌, ◌≤◌, ◌^◌, List, [], refl, sym, ap, ◌∙◌, arith}
+use Rattle.std.specs.Prelude.{ℤ, pos, codes, Option, Some}
+use Rattle.mm_meaning.specs.Run.{Run, Gives, then}
+use Rattle.mm_core.specs.Tree.{Stmts, Function, program_of}
 use Rattle.mm_core.specs.State.{Value, Number, Nothing, State, Store}
 use Rattle.mm_core.specs.Valid.{int_type, AreValidStmts}
 use Rattle.mm_core.specs.Meaning as source
@@ -17,7 +15,7 @@ use Rattle.mm_c.specs.CRun as run
 use Rattle.mm_c.specs.CRun.{c_run}
 use Rattle.mm_c.specs.Tree as tree
 use Rattle.mm_c.specs.Tree.{Code, just}
-use Rattle.mm_agree.specs.Agree.{stop_in_c, Agree, both_give, both_stop, Fits, in_c, IsInput, States, SameResult, OneWorld, Alike}
+use Rattle.mm_agree.specs.Agree.{stop_in_c, Agree, both_give, both_stop, Fits, in_c, IsInput, States, Alike}
 use Rattle.mm_agree.specs.Translates.{finish_in_c, outcome_in_c, Translates}
 use Rattle.mm_agree.proofs.Steps.{SameWorld, flows-⨾}
 use Rattle.mm_lower.specs.Lowered.{locals_from, lowered_stmts, lowered_main, lowered_program, reach_stmts}

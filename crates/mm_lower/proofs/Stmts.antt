@@ -1,18 +1,13 @@
 -- The code of a statement goes on as the statement does.
-use Rattle.std.proofs.Common.{◌≡◌, ℕ, zero, suc, ◌+◌, ◌<◌, ◌≤◌, ◌^◌, max, refl, sym, ap, ◌∙◌, arith}
-use Rattle.mm_meaning.specs.Run as runs
+use Rattle.std.proofs.Common.{◌≡◌, ℕ, ◌+◌, ◌<◌, ◌≤◌, ◌^◌, refl, ap, ◌∙◌, arith}
 use Rattle.mm_core.specs.Tree.{Expr, Stmt, block, run, return, Stmts, no_stmts, stmt_and}
-use Rattle.mm_core.specs.State.{Value, Number, Nothing, Store}
-use Rattle.mm_core.specs.Valid.{int_type, type_of, IsValid, IsValidStmt, AreValidStmts}
-use Rattle.mm_core.specs.Meaning as source
-use Rattle.mm_core.specs.Meaning.{Calls, Flow, Next, Returned, value_of, flow_of, flows_of, unless_left}
+use Rattle.mm_core.specs.State.{Store}
+use Rattle.mm_core.specs.Valid.{int_type, IsValidStmt, AreValidStmts}
+use Rattle.mm_core.specs.Meaning.{Calls, Flow, Next, Returned, flow_of, flows_of, unless_left}
 use Rattle.mm_c.specs.CMeaning as c
-use Rattle.mm_c.specs.Tree as tree
-use Rattle.mm_c.specs.Tree.{Code, done, ◌⨾◌, just}
-use Rattle.mm_agree.specs.Agree.{Agree, both_give, both_stop, Fits, in_c, States}
+use Rattle.mm_agree.specs.Agree.{Agree, both_give, Fits, in_c, States}
 use Rattle.mm_agree.proofs.Steps.{SameWorld, flows-⨾, after, agree_then, agree_weaken, agree_map}
-use Rattle.mm_lower.specs.Lowered.{local, value_in, lowered, lowered_stmt, lowered_stmts, reach, reach_stmt, reach_stmts}
-use Rattle.mm_lower.proofs.Exprs.{Holds}
+use Rattle.mm_lower.specs.Lowered.{local, lowered, lowered_stmt, lowered_stmts, reach_stmt, reach_stmts}
 use Rattle.mm_lower.proofs.Nodes.{expr_agrees}
 
 -- the same way on

@@ -1,24 +1,22 @@
 -- The code of a sum gives the exact sum, or traps where that is no `int`.
-use Rattle.std.proofs.Common.{◌≡◌, ◌≢◌, ℕ, zero, suc, ◌+◌, ◌<◌, ◌≤◌, ◌^◌, List, [], ◌∷◌, refl, sym, ap, ap₂, ◌∙◌, subst, arith}
-use Rattle.std.specs.Prelude.{ℤ, pos, negsuc, ◌+ℤ◌, ◌-ℤ◌, Bool, true, false, not, IsTrue, int_lt, if◌then◌else◌, codes}
+use Rattle.std.proofs.Common.{◌≡◌, ◌≢◌, ℕ, suc, ◌<◌, ◌^◌, refl, ap, ap₂, ◌∙◌, arith}
+use Rattle.std.specs.Prelude.{ℤ, pos, ◌+ℤ◌, ◌-ℤ◌, Bool, true, false, not, IsTrue, int_lt, if◌then◌else◌}
 use Rattle.mm_base.specs.Num.{is_int}
 use Rattle.mm_meaning.specs.Run as runs
 use Rattle.mm_meaning.specs.Run.{Run, Gives, Stops}
-use Rattle.mm_core.specs.Tree.{Operator, Add}
-use Rattle.mm_core.specs.State.{Value, Number, Nothing, State, Store}
+use Rattle.mm_core.specs.Tree.{Add}
+use Rattle.mm_core.specs.State.{Number, Store}
 use Rattle.mm_core.specs.Valid.{int_type}
-use Rattle.mm_core.specs.Meaning as source
 use Rattle.mm_core.specs.Meaning.{operate}
-use Rattle.mm_c.specs.declared.tree.COperator.{COperator}
 use Rattle.mm_c.specs.declared.tree.COperator.TheVariants as by
 use Rattle.mm_c.specs.Memory as memory
 use Rattle.mm_c.specs.CMeaning as c
 use Rattle.mm_c.specs.CMeaning.{Flow, Next, with_name, flows_of, bit_of}
 use Rattle.mm_c.specs.Tree as tree
 use Rattle.mm_c.specs.Tree.{Code, done, do_then, ◌⨾◌, just, name, number}
-use Rattle.mm_agree.specs.Agree.{Agree, both_give, both_stop, States}
-use Rattle.mm_agree.proofs.Steps.{SameWorld, AgreeOn, if_step, only_step, gives_step}
-use Rattle.mm_lower.specs.Lowered.{local, greatest, value_in, block_of, trap_code, overflow_if, below_test, above_test, sum_test, operator}
+use Rattle.mm_agree.specs.Agree.{both_give, both_stop, States}
+use Rattle.mm_agree.proofs.Steps.{AgreeOn, if_step, only_step, gives_step}
+use Rattle.mm_lower.specs.Lowered.{local, greatest, value_in, block_of, trap_code, overflow_if, below_test, above_test, operator}
 use Rattle.mm_lower.proofs.Names.{written, kept}
 use Rattle.mm_lower.proofs.Ints.{greatest_int, least_int, sum_up, sum_down, room_up, room_down}
 use Rattle.mm_lower.proofs.Exprs.{Holds, holds_written, in_block}
@@ -81,12 +79,12 @@ module _ (calls : c.Calls) (arrays : c.Arrays) (t : ℕ) (m n : ℤ) (old : c.Na
   test_at : (b : Bool) → int_lt n (pos 0) ≡ b → (u : c.Store) → u.names (local (suc (suc t))) ≡ memory.Int (bit_of b) → Known u → AgreeOn (Holds t old int_type) (operate Add m n s k) (flows_of calls arrays (tested ⨾ rest) u k)
   test_at true e u test h = if_step calls arrays _ _ rest u k (local (suc (suc t))) (memory.Int (pos 1)) (block_of (below_test t (suc t) (suc (suc t)))) (block_of (above_test t (suc t) (suc (suc t)))) test (in_block calls arrays _ _ (below_test t (suc t) (suc (suc t))) rest u k
       (branch (int_lt m (least_int -ℤ n)) (sum_down m n is_m is_n e) (least_int -ℤ n) (tree.binary tree.least by.Subtract (value_in (suc t))) (tree.binary (value_in t) by.Less (value_in (suc (suc t)))) u h
-        (ap (λ y. c.on_ints by.Subtract (memory.Int least_int) y u k) h.right ∙ exact_gives (least_int -ℤ n) u k (room_down n is_n e))
-        (λ u' test' h'. ap₂ (λ x y. c.on_ints by.Less x y u' k) h'.left test')))
+      (ap (λ y. c.on_ints by.Subtract (memory.Int least_int) y u k) h.right ∙ exact_gives (least_int -ℤ n) u k (room_down n is_n e))
+      (λ u' test' h'. ap₂ (λ x y. c.on_ints by.Less x y u' k) h'.left test')))
   test_at false e u test h = if_step calls arrays _ _ rest u k (local (suc (suc t))) (memory.Int (pos 0)) (block_of (below_test t (suc t) (suc (suc t)))) (block_of (above_test t (suc t) (suc (suc t)))) test (in_block calls arrays _ _ (above_test t (suc t) (suc (suc t))) rest u k
       (branch (int_lt (greatest_int -ℤ n) m) (sum_up m n is_m is_n e) (greatest_int -ℤ n) (tree.binary (number greatest) by.Subtract (value_in (suc t))) (tree.binary (value_in (suc (suc t))) by.Less (value_in t)) u h
-        (ap (λ y. c.on_ints by.Subtract (memory.Int greatest_int) y u k) h.right ∙ exact_gives (greatest_int -ℤ n) u k (room_up n is_n e))
-        (λ u' test' h'. ap₂ (λ x y. c.on_ints by.Less x y u' k) test' h'.left)))
+      (ap (λ y. c.on_ints by.Subtract (memory.Int greatest_int) y u k) h.right ∙ exact_gives (greatest_int -ℤ n) u k (room_up n is_n e))
+      (λ u' test' h'. ap₂ (λ x y. c.on_ints by.Less x y u' k) test' h'.left)))
 
   pub add_agrees : (u : c.Store) → u.names (local t) ≡ memory.Int m → u.names (local (suc t)) ≡ memory.Int n → ((x : ℕ) → x < t → u.names (local x) ≡ old (local x)) → States s.state u.state → AgreeOn (Holds t old int_type) (operate Add m n s k) (flows_of calls arrays (operator t Add) u k)
   add_agrees u left right same states =

@@ -1,9 +1,9 @@
 -- The C code of a checked tree. A value goes to the local of number t; the code uses only locals from t on. (Own.)
-use Rattle.std.specs.Prelude.{ℕ, zero, suc, ℤ, pos, negsuc, ◌+◌, max, ◌==◌, List, [], ◌∷◌, ◌++◌, codes, if◌then◌else◌}
+use Rattle.std.specs.Prelude.{ℕ, zero, suc, ℤ, pos, negsuc, max, ◌==◌, List, [], ◌∷◌, ◌++◌, codes, if◌then◌else◌}
 use Rattle.std.specs.Fmt.{decimal}
 use Rattle.mm_base.specs.declared.world.Builtin.{Builtin}
 use Rattle.mm_base.specs.declared.world.Builtin.TheVariants.{Put, Get, More}
-use Rattle.mm_core.specs.Tree.{Operator, Add, Expr, int, binary, builtin, Exprs, no_exprs, expr_and, Stmt, block, run, return, Stmts, no_stmts, stmt_and, Function}
+use Rattle.mm_core.specs.Tree.{Operator, Add, Expr, int, binary, builtin, Exprs, no_exprs, expr_and, Stmt, block, run, return, Stmts, no_stmts, stmt_and}
 use Rattle.mm_c.specs.declared.tree.COperator.TheVariants as by
 use Rattle.mm_c.specs.Tree as c
 use Rattle.mm_c.specs.Tree.{Code, done, do_then, ◌⨾◌, just}

@@ -95,7 +95,8 @@ fn a_sum_is_put(rt: HostRuntime) -> Result<(), Fail> {
     let o = linked(rt.alloc(), "int main() { mm_put(1 + 2); return 0; }")?;
     assert_eq!(rt; o.status, 0);
     assert!(rt; o.err.is_empty());
-    let text = "extern void mm_put ( int ) ;\nextern int mm_get ( void ) ;\nextern int mm_more ( void ) ;\nextern void mm_trap ( int ) ;\nextern char * mm_new ( unsigned ) ;\nint main ( void ) {\nint i0 = 0 ;\nint i1 = 0 ;\nint i2 = 0 ;\ni0 = 1 ;\ni1 = 2 ;\ni2 = i1 < 0 ;\nif ( i2 ) {\ni2 = ( - 2147483647 - 1 ) - i1 ;\ni2 = i0 < i2 ;\n}\nelse {\ni2 = 2147483647 - i1 ;\ni2 = i2 < i0 ;\n}\nif ( i2 ) {\nmm_trap ( 1 ) ;\n}\ni0 = i0 + i1 ;\nmm_put ( i0 ) ;\ni0 = 0 ;\nreturn i0 ;\nreturn 0 ;\n}\n";
+    let text =
+        "extern void mm_put ( int ) ;\nextern int mm_get ( void ) ;\nextern int mm_more ( void ) ;\nextern void mm_trap ( int ) ;\nextern char * mm_new ( unsigned ) ;\nint main ( void ) {\nint i0 = 0 ;\nint i1 = 0 ;\nint i2 = 0 ;\ni0 = 1 ;\ni1 = 2 ;\ni2 = i1 < 0 ;\nif ( i2 ) {\ni2 = ( - 2147483647 - 1 ) - i1 ;\ni2 = i0 < i2 ;\n}\nelse {\ni2 = 2147483647 - i1 ;\ni2 = i2 < i0 ;\n}\nif ( i2 ) {\nmm_trap ( 1 ) ;\n}\ni0 = i0 + i1 ;\nmm_put ( i0 ) ;\ni0 = 0 ;\nreturn i0 ;\nreturn 0 ;\n}\n";
     assert_eq!(rt; o.out.as_slice(), text.as_bytes());
     Ok(())
 }

@@ -1,9 +1,9 @@
 -- Which answers are given, by the way in which the linking ended.
 use Rattle.std.proofs.Common.{◌≡◌, ◌⊎◌, ℕ, ◌+◌, ◌<◌, ◌≤◌, List, [], length, Option, Some, None, refl, sym, ap, ◌∙◌, subst, inl, inr, arith}
 use Rattle.std.specs.Prelude.{codes}
-use Rattle.std.specs.Option.{MatchOption, IfSome}
+use Rattle.std.specs.Option.{MatchOption}
 use Rattle.std.proofs.lemmas.List.{take_all}
-use Rattle.mm_base.specs.Outside.{Contents, Rose, RoseBy, grown}
+use Rattle.mm_base.specs.Outside.{Contents, RoseBy, grown}
 use Rattle.mm_base.proofs.Grown.{grown_nil}
 use Rattle.mm_top.specs.declared.parse.Stmt.{Stmt}
 use Rattle.mm_top.specs.declared.link.Ending.{Ending}

@@ -1,12 +1,8 @@
 -- What the C program of `int main() { mm_put(1 + 2); return 0; }` does, and that of a sum past the greatest `int`.
-use Rattle.std.proofs.Common.{◌≡◌, ℕ, ◌≤◌, ◌^◌, List, [], ◌∷◌, refl, ◌∙◌, ap, arith}
+use Rattle.std.proofs.Common.{◌≡◌, ℕ, ◌≤◌, ◌^◌, List, [], ◌∷◌, refl, arith}
 use Rattle.std.specs.Prelude.{pos}
-use Rattle.mm_core.specs.Tree.{program_of}
-use Rattle.mm_core.specs.Valid.{AreValidStmts}
-use Rattle.mm_core.specs.Run.{source_run}
 use Rattle.mm_c.specs.CRun.{c_run, Ended, TrappedBy, GoesOn}
-use Rattle.mm_agree.specs.Translates.{outcome_in_c}
-use Rattle.mm_lower.specs.Lowered.{lowered_program, reach_stmts}
+use Rattle.mm_lower.specs.Lowered.{lowered_program}
 use Rattle.mm_lower.proofs.Programs.{translates}
 use Rattle.mm_top.specs.declared.parse.Stmt.{Stmt}
 use Rattle.mm_top.specs.declared.parse.Stmt.TheVariants.{Put, Return}

@@ -1,5 +1,5 @@
 -- The numbers of a unit's text are those of `int`, so its checked `main` is valid, and its code uses three locals at most.
-use Rattle.std.proofs.Common.{◌≡◌, ℕ, ◌+◌, ◌^◌, ◌<◌, ◌≤◌, max, Bool, true, false, List, [], ◌∷◌, ◌++◌, Option, Some, None, cond, codes, flat_map, refl, sym, ap, ◌∙◌, subst, arith, append_assoc, ⊎_elim}
+use Rattle.std.proofs.Common.{◌≡◌, ℕ, ◌^◌, ◌<◌, ◌≤◌, Bool, true, false, List, [], ◌∷◌, ◌++◌, Option, Some, None, cond, codes, flat_map, refl, sym, ap, ◌∙◌, subst, arith, append_assoc, ⊎_elim}
 use Rattle.std.specs.Prelude.{pos, IsTrue}
 use Rattle.std.specs.Str.{bytes_eq}
 use Rattle.std.specs.Str.Parse.{digits_value}
@@ -13,7 +13,7 @@ use Rattle.mm_top.specs.declared.scan.Token.{Token}
 use Rattle.mm_top.specs.declared.scan.Token.TheVariants as token
 use Rattle.mm_top.specs.declared.parse.Stmt.{Stmt}
 use Rattle.mm_top.specs.declared.parse.Stmt.TheVariants.{Put, Return}
-use Rattle.mm_top.specs.Grammar.{term_tokens, sum_tokens, stmt_tokens, unit_tokens, IsUnit, adds, sum_expr, checked}
+use Rattle.mm_top.specs.Grammar.{term_tokens, sum_tokens, stmt_tokens, unit_tokens, IsUnit, adds, checked}
 use Rattle.mm_top.specs.Source.{is_white, joins, token_of, number_of, is_number}
 use Rattle.mm_top.proofs.Numbers.{number_small}
 

@@ -102,11 +102,7 @@ fn lower_above(alloc: Global) -> Result<CBlock, AllocError>
 fn lower_test(alloc: Global, code: &mut Items<CStmt>) -> Result<(), AllocError>
     ensures { OnOk result (code_view code.new ≡ code_view code.old ⨾ sum_test 0 1 2) }
 {
-    let below_zero = CRight::Binary(
-        Slot::Next.value(alloc)?,
-        COperator::Less,
-        CAtom::Number(0),
-    );
+    let below_zero = CRight::Binary(Slot::Next.value(alloc)?, COperator::Less, CAtom::Number(0));
     assign(alloc, code, Slot::Test, below_zero)?;
     let test = Slot::Test.value(alloc)?;
     let below = lower_below(alloc)?;

@@ -1,4 +1,4 @@
-use Rattle.std.proofs.Common.{ℕ, ◌<◌, length, sym, arith, subst}
+use Rattle.std.proofs.Common.{◌<◌, length, sym, arith, subst}
 use Rattle.mm_top.proofs.Codes.{reach_of_sum}
 use Rattle.mm_top.proofs.lower.reach_sum.Goals as goal
 
