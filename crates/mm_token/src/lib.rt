@@ -1,4 +1,5 @@
 //! The tokens of a unit and of the headers that it includes.
 #![tactic(auto)]
 
+pub mod piece;
 pub mod token;
