@@ -1,11 +1,24 @@
 -- Runs and ends of comments, by the places in a list.
-use Rattle.std.proofs.Common.{◌≡◌, ℕ, suc, zero, ◌<◌, ◌+◌, Bool, true, false, ◌&&◌, IsTrue, List, [], ◌∷◌, length, get_or, take, refl, arith, sym, ◌∙◌, ap, subst}
+use Rattle.std.proofs.Common.{◌≡◌, ◌≢◌, ℕ, suc, zero, ◌<◌, ◌≤◌, ◌+◌, ◌==◌, drop, drop-cons, add-one, length-drop, None, Bool, true, false, ◌&&◌, IsTrue, List, [], ◌∷◌, length, get_or, take, refl, arith, sym, ◌∙◌, ap, subst}
+use Rattle.std.specs.List.{list_all}
+use Rattle.std.proofs.lemmas.List.{nil_from_length}
+use Rattle.std.specs.Int.{IsInRange}
+use Rattle.mm_token.specs.Characters.{is_digit}
+use Rattle.mm_token.specs.Words.{past_word}
 use Rattle.mm_token.specs.Pieces.{is_open, is_closed, ends_not}
 
 pub both : (a b : Bool) → IsTrue a → IsTrue b → IsTrue (a && b)
 both true true x y = y
 both true false x y = y
 both false b x y = x
+
+pub and_left : (a b : Bool) → IsTrue (a && b) → IsTrue a
+and_left true b h = refl
+and_left false b h = h
+
+pub and_right : (a b : Bool) → IsTrue (a && b) → IsTrue b
+and_right true b h = h
+and_right false b h = absurd (cc)
 
 pub open_from : (text : List ℕ) → ((k : ℕ) → suc k < length text → IsTrue (ends_not (get_or text k 0) (get_or text (suc k) 0))) → IsTrue (is_open text)
 open_from [] h = refl
@@ -28,3 +41,30 @@ closed_at n text l h e f =
     let m : suc n < length text = omega arith in
     let next : get_or text (suc n) 0 ≡ 47 = ap (λ i. get_or text i 0) (sym one) ∙ f in
     subst (λ i. IsTrue (is_closed (take i text))) (sym two) (closed_from n text m h e next)
+
+-- ---- all of a list
+
+pub all_index : (p : ℕ → Bool) (xs : List ℕ) (i : ℕ) → IsTrue (list_all p xs) → i < length xs → IsTrue (p (get_or xs i 0))
+all_index p [] i h l = absurd (omega arith)
+all_index p (x ∷ xs) zero h l = and_left (p x) (list_all p xs) h
+all_index p (x ∷ xs) (suc i) h l = all_index p xs i (and_right (p x) (list_all p xs) h) (omega arith)
+
+pub digit_range : (c : ℕ) → IsTrue (is_digit c) → IsInRange 48 57 c
+digit_range c h = grind (arith, h)
+
+-- ---- words
+
+pub word_short : (ws cs : List ℕ) (i n : ℕ) → i < length ws → length cs ≤ n → past_word (drop i ws) (drop n cs) ≡ None
+word_short ws cs i n l m = let e : drop n cs ≡ [] = nil_from_length (drop n cs) (omega (arith, length-drop n cs)) in rw (drop-cons ws i 0, e) refl
+
+pub word_other : (ws cs : List ℕ) (i n : ℕ) → i < length ws → n < length cs → get_or cs n 0 ≢ get_or ws i 0 → past_word (drop i ws) (drop n cs) ≡ None
+word_other ws cs i n l m h = rw (drop-cons ws i 0, drop-cons cs n 0) (other (get_or ws i 0) (get_or cs n 0) h)
+  where
+    other : (w c : ℕ) → c ≢ w → past_word (w ∷ drop (suc i) ws) (c ∷ drop (suc n) cs) ≡ None
+    other w c h = let e : (w == c) ≡ false = grind (arith, h) in rw e refl
+
+pub word_more : (ws cs : List ℕ) (i n : ℕ) → i < length ws → n < length cs → get_or cs n 0 ≡ get_or ws i 0 → past_word (drop (i + 1) ws) (drop (n + 1) cs) ≡ past_word (drop i ws) (drop n cs)
+word_more ws cs i n l m h = rw (add-one, add-one, drop-cons ws i 0, drop-cons cs n 0) (same (get_or ws i 0) (get_or cs n 0) h)
+  where
+    same : (w c : ℕ) → c ≡ w → past_word (drop (suc i) ws) (drop (suc n) cs) ≡ past_word (w ∷ drop (suc i) ws) (c ∷ drop (suc n) cs)
+    same w c h = let e : (w == c) ≡ true = grind (arith, h) in rw e refl

@@ -2,6 +2,7 @@
 -- A unit's text is UTF-8 (own; ISO/IEC 14882:1998, 2.1 leaves the physical characters open). Where bytes stop
 -- being UTF-8, the first of them stands as a number that is no character, and those behind it one by one.
 use Rattle.std.specs.Prelude.{ℕ, ◌+◌, Bool, true, false, ◌&&◌, ◌||◌, ◌==◌, if◌then◌else◌, List, [], ◌∷◌, ◌++◌, nat_le, take, drop}
+use Rattle.std.specs.List.{list_all}
 use Rattle.std.specs.Char.{len_utf8}
 use Rattle.std.specs.Str.{chars}
 use Rattle.std.specs.Str.Lossy.{utf8_valid_len}
@@ -23,6 +24,10 @@ spoiled (b ∷ bs) = no_character ∷ bs
 -- the characters of the longest front of the bytes that is UTF-8, and the bytes behind it
 unfoldable pub characters_of : List ℕ → List ℕ
 characters_of bytes = chars (take (utf8_valid_len bytes) bytes) ++ spoiled (drop (utf8_valid_len bytes) bytes)
+
+-- whether these are characters
+abbrev pub is_text : List ℕ → Bool
+is_text cs = list_all is_character cs
 
 -- white space: blank, tab, LF, VT, FF, CR
 abbrev pub is_blank : ℕ → Bool

@@ -2,3 +2,4 @@ unfoldable pub use Rattle.unicode_ident.specs.Ident.{is_xid_start, is_xid_contin
 pub mod Characters
 pub mod Pieces
 pub mod Runs
+pub mod Words

@@ -1,6 +1,9 @@
 -- What the scanner's small functions ask and answer.
 use Rattle.std.specs.Prelude.{◌≡◌, ℕ, ◌<◌, ◌≤◌, Bool, not, IsTrue, List, [], ◌∷◌, length, slice_index, ◌⊎◌}
 use Rattle.mm_token.specs.Characters.{sort_of}
+use Rattle.mm_token.specs.Words.{is_number, is_in_range, value_of}
+use Rattle.mm_token.specs.declared.words.Wrong.{Wrong}
+use Rattle.mm_token.specs.declared.words.Wrong.TheVariants as wrong
 use Rattle.mm_token.specs.declared.piece.Sort.{Sort}
 use Rattle.mm_token.specs.declared.piece.Sort.TheVariants as sort_is
 
@@ -26,3 +29,15 @@ MayBeMark (c ∷ r) = IsHead c × ¬ (BeginsComment (c ∷ r))
 abbrev pub BeginsWith : List ℕ → Sort → Type 0
 BeginsWith [] s = ⊥
 BeginsWith (c ∷ r) s = sort_of c ≡ s
+
+-- the value of a number
+pub record NumberValue (text : List ℕ) (n : ℕ) : Type 0 where
+  pub is_number : IsTrue (is_number text)
+  pub in_range : IsTrue (is_in_range text)
+  pub value : n ≡ value_of text
+
+-- what is wrong with a number
+abbrev pub NumberFault : List ℕ → Wrong → Type 0
+NumberFault text wrong.NoToken = IsTrue (not (is_number text))
+NumberFault text wrong.Range = IsTrue (is_number text) × IsTrue (not (is_in_range text))
+NumberFault text _ = ⊥

@@ -3,3 +3,4 @@
 
 pub mod piece;
 pub mod token;
+pub mod words;
