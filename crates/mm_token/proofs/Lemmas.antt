@@ -1,7 +1,8 @@
 -- Runs and ends of comments, by the places in a list.
-use Rattle.std.proofs.Common.{◌≡◌, ◌≢◌, ℕ, suc, zero, ◌<◌, ◌≤◌, ◌+◌, ◌==◌, drop, drop-cons, add-one, length-drop, None, Bool, true, false, ◌&&◌, IsTrue, List, [], ◌∷◌, length, get_or, take, refl, arith, sym, ◌∙◌, ap, subst}
+use Rattle.std.proofs.Common.{◌≡◌, ◌≢◌, ℕ, suc, zero, ◌<◌, ◌≤◌, ◌+◌, ◌==◌, drop, drop-cons, add-one, length-drop, None, Bool, true, false, ◌&&◌, IsTrue, not, ◌++◌, List, [], ◌∷◌, length, get_or, take, refl, arith, sym, ◌∙◌, ap, subst}
 use Rattle.std.specs.List.{list_all}
-use Rattle.std.proofs.lemmas.List.{nil_from_length}
+use Rattle.std.proofs.lemmas.List.{nil_from_length, take_all, take-append-drop}
+use Rattle.mm_token.specs.Runs.{IsRunOf}
 use Rattle.std.specs.Int.{IsInRange}
 use Rattle.mm_token.specs.Characters.{is_digit}
 use Rattle.mm_token.specs.Words.{past_word}
@@ -44,6 +45,11 @@ closed_at n text l h e f =
 
 -- ---- all of a list
 
+pub all_of_take : (p : ℕ → Bool) (r : List ℕ) (n : ℕ) → n ≤ length r → ((i : ℕ) → i < n → IsTrue (p (get_or r i 0))) → IsTrue (list_all p (take n r))
+all_of_take p r zero l h = refl
+all_of_take p [] (suc n) l h = absurd (omega arith)
+all_of_take p (x ∷ r) (suc n) l h = both (p x) (list_all p (take n r)) (h 0 (omega arith)) (all_of_take p r n (omega arith) (λ i m. h (suc i) (omega arith)))
+
 pub all_index : (p : ℕ → Bool) (xs : List ℕ) (i : ℕ) → IsTrue (list_all p xs) → i < length xs → IsTrue (p (get_or xs i 0))
 all_index p [] i h l = absurd (omega arith)
 all_index p (x ∷ xs) zero h l = and_left (p x) (list_all p xs) h
@@ -68,3 +74,18 @@ word_more ws cs i n l m h = rw (add-one, add-one, drop-cons ws i 0, drop-cons cs
   where
     same : (w c : ℕ) → c ≡ w → past_word (drop (suc i) ws) (drop (suc n) cs) ≡ past_word (w ∷ drop (suc i) ws) (c ∷ drop (suc n) cs)
     same w c h = let e : (w == c) ≡ true = grind (arith, h) in rw e refl
+
+-- ---- runs of characters
+
+pub run_whole : (p : ℕ → Bool) (text : List ℕ) (n : ℕ) → IsRunOf p text n → n ≡ length text → IsTrue (list_all p text)
+run_whole p text n run e = subst (λ cs. IsTrue (list_all p cs)) (take_all n text (omega arith)) (all_of_take p text n run.within run.passes)
+
+pub run_split : (text : List ℕ) (n : ℕ) → n < length text → text ≡ take n text ++ get_or text n 0 ∷ drop (suc n) text
+run_split text n l = sym (take-append-drop n text) ∙ ap (λ r. take n text ++ r) (drop-cons text n 0 l)
+
+pub run_stops : (p : ℕ → Bool) (text : List ℕ) (n : ℕ) → IsRunOf p text n → n < length text → p (get_or text n 0) ≡ false
+run_stops p text n run l = false_of (p (get_or text n 0)) (run.stops l)
+  where
+    false_of : (b : Bool) → IsTrue (not b) → b ≡ false
+    false_of true h = absurd (cc)
+    false_of false h = refl

@@ -11,7 +11,7 @@ use Rattle.mm_token.specs.Characters.{sort_of, sort_of_character, is_blank, is_p
 use Rattle.mm_token.specs.Pieces.{is_open, is_closed, ends_not, IsPiece, IsMark, IsLongest, HasNone, Begins}
 use Rattle.mm_token.specs.Runs.{IsRunOf, BeginsComment, IsHead, MayBeMark, BeginsWith}
 use lib.Utf8.{scalar as is_character}
-use Rattle.mm_token.proofs.Lemmas.{both}
+use Rattle.mm_token.proofs.Lemmas.{both, and_left, and_right, all_of_take}
 
 abbrev Fits : Shape → Sort → Type 0
 Fits shape.Blank s = s ≡ sort_is.Blank
@@ -43,19 +43,6 @@ module _ (fr : Bool) where
   kind_sort shape.Mark c (d ∷ e ∷ r) h = absurd h
 
   -- ---- runs
-
-  all_of_take : (p : ℕ → Bool) (r : List ℕ) (n : ℕ) → n ≤ length r → ((i : ℕ) → i < n → IsTrue (p (get_or r i 0))) → IsTrue (list_all p (take n r))
-  all_of_take p r zero l h = refl
-  all_of_take p [] (suc n) l h = absurd (omega arith)
-  all_of_take p (x ∷ r) (suc n) l h = both (p x) (list_all p (take n r)) (h 0 (omega arith)) (all_of_take p r n (omega arith) (λ i m. h (suc i) (omega arith)))
-
-  and_left : (a b : Bool) → IsTrue (a && b) → IsTrue a
-  and_left true b h = refl
-  and_left false b h = h
-
-  and_right : (a b : Bool) → IsTrue (a && b) → IsTrue b
-  and_right true b h = h
-  and_right false b h = absurd (cc)
 
   all_at : (p : ℕ → Bool) (a : List ℕ) (d : ℕ) (m : List ℕ) → IsTrue (list_all p (a ++ d ∷ m)) → IsTrue (p d)
   all_at p [] d m h = and_left (p d) (list_all p m) h

@@ -1,5 +1,6 @@
 unfoldable pub use Rattle.unicode_ident.specs.Ident.{is_xid_start, is_xid_continue}
 pub mod Characters
 pub mod Pieces
+pub mod Cut
 pub mod Runs
 pub mod Words

@@ -2,5 +2,6 @@
 #![tactic(auto)]
 
 pub mod piece;
+pub mod scan;
 pub mod token;
 pub mod words;
