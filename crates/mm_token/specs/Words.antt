@@ -9,7 +9,7 @@ use Rattle.mm_token.specs.Characters.{is_blank, is_digit, is_text}
 
 -- whether a text is one of these
 abbrev pub is_among : List ℕ → List (List ℕ) → Bool
-is_among text texts = list_any (bytes_eq text) texts
+is_among text texts = list_any (λ t. bytes_eq t text) texts
 
 -- the 63 keywords and the eleven alternative words (ISO/IEC 14882:1998, 2.11)
 abbrev pub keywords : List (List ℕ)

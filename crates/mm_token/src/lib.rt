@@ -1,7 +1,9 @@
 //! The tokens of a unit and of the headers that it includes.
 #![tactic(auto)]
 
+pub mod names;
 pub mod piece;
 pub mod scan;
+pub mod text;
 pub mod token;
 pub mod words;

@@ -101,10 +101,10 @@ const KEYWORDS: [&str; 74] = [
 ];
 
 fn is_listed(words: &[&str], word: &str) -> bool
-    ensures { result ≡ list_any (λ k. bytes_eq word.now k.now) words.now }
+    ensures { result ≡ list_any (λ k. bytes_eq k.now word.now) words.now }
 {
     for other in words {
-        if word == *other {
+        if *other == word {
             return true;
         }
     }

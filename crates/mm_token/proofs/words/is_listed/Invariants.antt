@@ -4,4 +4,4 @@ use Rattle.std.specs.Str.{bytes_eq}
 use Rattle.mm_token.proofs.words.is_listed.Given as goal
 
 abbrev pub invariant-loop-other : goal.invariant-loop-other
-invariant-loop-other l = list_any (λ k. bytes_eq l.word k.now) (take l.other-index l.words) ≡ false
+invariant-loop-other l = list_any (λ k. bytes_eq k.now l.word) (take l.other-index l.words) ≡ false
