@@ -80,6 +80,14 @@ abbrev pub token_value : Shape → List ℕ → ℕ
 token_value shape.Number cs = value_of cs
 token_value _ cs = 0
 
+-- the file that a line includes: its name as it stands, in UTF-8
+abbrev pub encoded : Option (List ℕ) → Option (List ℕ)
+encoded None = None
+encoded (Some cs) = Some (encode_utf8_all cs)
+
+abbrev pub file_named : List ℕ → Option (List ℕ)
+file_named line = encoded (included_name line)
+
 -- the token that a piece is behind these tokens
 abbrev pub token_of : List Token → Piece → Place → Token
 token_of before p at = record { kind = token_kind before p.kind (encode_utf8_all p.text); value = token_value p.kind p.text; text = encode_utf8_all p.text; place = at }
@@ -105,7 +113,7 @@ Puts File shape.Blank text at s t = t ≡ s
 Puts File shape.Line text at s t = t ≡ s
 Puts File shape.Block text at s t = t ≡ s
 Puts File shape.Open text at s t = ⊥
-Puts File shape.Directive text at s t = Includes File (included_name text) s t
+Puts File shape.Directive text at s t = Includes File (file_named text) s t
 Puts File shape.Word text at s t = t ≡ with_token s (token_of s.tokens (record { kind = shape.Word; text = text }) at)
 Puts File shape.Number text at s t = t ≡ with_token s (token_of s.tokens (record { kind = shape.Number; text = text }) at)
 Puts File shape.Mark text at s t = t ≡ with_token s (token_of s.tokens (record { kind = shape.Mark; text = text }) at)
@@ -145,7 +153,7 @@ KeepsOut held name from at s _ = ⊥
 abbrev pub StopsHere : (List ℕ → Place → State → TokenEnd → Type 0) → List ℕ → Bool → List ℕ → Place → State → TokenEnd → Type 0
 StopsHere Refused name fresh rest at s e =
     ((w : Wrong) × (place : Place) × IsFault fresh rest at w place × (e ≡ Fault (code_of w) place name)) ⊎
-    ((line : List ℕ) × (after : List ℕ) × (inner : List ℕ) × IsLongest fresh rest shape.Directive line after × (included_name line ≡ Some inner) × (was_included s inner ≡ false) × Refused inner at s e)
+    ((line : List ℕ) × (after : List ℕ) × (inner : List ℕ) × IsLongest fresh rest shape.Directive line after × (file_named line ≡ Some inner) × (was_included s inner ≡ false) × Refused inner at s e)
 
 -- A text stops: it is cut into pieces up to a place, and stops there.
 abbrev pub StopsText : (List ℕ → State → State → Type 0) → (List ℕ → Place → State → TokenEnd → Type 0) → List ℕ → List ℕ → Place → State → TokenEnd → Type 0
@@ -177,8 +185,12 @@ IsExpanded held unit t =
     × PutsText (PutsFile held 32) (characters_of bytes) unit_start (with_file nothing_read unit (length bytes)) s
     × (t.files ≡ s.files) × (t.list ≡ s.tokens) × (t.bytes ≡ s.bytes) × (t.end ≡ place_after unit_start (characters_of bytes))
 
+-- a fact on why there are no tokens, where no read failed and memory didn't run out
+abbrev pub Stopped : TokenEnd → Type 0 → Type 0
+Stopped (Failed n) P = Unit {0}
+Stopped NoMemory P = Unit {0}
+Stopped _ P = P
+
 -- This is the first fault of the unit; nothing is said where a read failed or memory ran out.
 abbrev pub IsRefused : Option Contents → List ℕ → TokenEnd → Type 0
-IsRefused held unit (Failed n) = Unit {0}
-IsRefused held unit NoMemory = Unit {0}
-IsRefused held unit e = Refuses held depth_limit [] unit unit_start nothing_read e
+IsRefused held unit e = Stopped e (Refuses held depth_limit [] unit unit_start nothing_read e)

@@ -2,6 +2,8 @@ unfoldable pub use Rattle.unicode_ident.specs.Ident.{is_xid_start, is_xid_contin
 pub mod Characters
 pub mod Pieces
 pub mod Cut
+pub mod Causes
 pub mod Expansion
 pub mod Runs
+pub mod Unit
 pub mod Words

@@ -6,4 +6,5 @@ pub mod piece;
 pub mod scan;
 pub mod text;
 pub mod token;
+pub mod unit;
 pub mod words;
