@@ -1,3 +1,4 @@
 pub mod Lemmas
 pub mod Longest
+pub mod Reading
 pub mod Tokens

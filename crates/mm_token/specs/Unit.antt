@@ -33,8 +33,10 @@ pub record HasRoom (s : State) (n : ℕ) : Type 0 where
 -- Tokens and files are no more than n and the bytes that were added.
 pub record Grows (s t : State) (n : ℕ) : Type 0 where
   pub counted : weight t + s.bytes ≤ weight s + t.bytes + n
+  pub files : length s.files ≤ length t.files
   pub limited : t.bytes ≤ byte_limit
 
+-- the shapes that are tokens
 abbrev pub IsTokenShape : Shape → Type 0
 IsTokenShape shape.Word = Unit {0}
 IsTokenShape shape.Number = Unit {0}

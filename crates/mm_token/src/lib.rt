@@ -3,6 +3,7 @@
 
 pub mod names;
 pub mod piece;
+pub mod read;
 pub mod scan;
 pub mod text;
 pub mod token;
