@@ -1,4 +1,6 @@
+pub mod Characters
 pub mod Lemmas
 pub mod Longest
 pub mod Reading
 pub mod Tokens
+pub mod Turns

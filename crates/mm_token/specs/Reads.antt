@@ -1,5 +1,5 @@
 -- What the reader's functions answer.
-use Rattle.std.specs.Prelude.{◌≡◌, ℕ, ◌+◌, ◌≤◌, false, IsTrue, List, length, Option, Some, Result, MatchResult}
+use Rattle.std.specs.Prelude.{◌≡◌, ℕ, ◌+◌, ◌<◌, ◌≤◌, false, IsTrue, List, length, Option, Some, Result, MatchResult}
 use Rattle.mm_base.specs.Outside.{Contents}
 use Rattle.mm_base.specs.declared.place.Place.{Place}
 use Rattle.mm_token.specs.declared.piece.Shape.{Shape}
@@ -42,7 +42,7 @@ StopsWhole held n name text at s e = StopsText (PutsFile held n) (Refuses held n
 
 -- a file of these bytes
 abbrev pub PutsBytes : Option Contents → ℕ → List ℕ → List ℕ → State → Place → State → Type 0
-PutsBytes held n name bytes s end t = PutsWhole held n (characters_of bytes) (file_start s) (with_file s name (length bytes)) end t
+PutsBytes held n name bytes s end t = PutsWhole held n (characters_of bytes) (file_start s) (with_file s name (length bytes)) end t × (length s.files < length t.files)
 
 abbrev pub StopsBytes : Option Contents → ℕ → List ℕ → List ℕ → State → TokenEnd → Type 0
 StopsBytes held n name bytes s e = StopsWhole held n name (characters_of bytes) (file_start s) (with_file s name (length bytes)) e

@@ -1,6 +1,6 @@
 // The files of a unit, read one in the other.
 
-ghost use Rattle.std.specs.Prelude.{◌≡◌, ◌+◌, ◌<◌, ◌≤◌, length, IsTrue, MatchResult};
+ghost use Rattle.std.specs.Prelude.{◌≡◌, ◌+◌, ◌<◌, ◌≤◌, length, IsTrue, IfErr, MatchResult};
 ghost use Rattle.mm_token.specs.Characters.{place_after};
 ghost use Rattle.mm_token.specs.Pieces.{IsPiece};
 ghost use Rattle.mm_token.specs.Cut.{IsGood};
@@ -122,8 +122,9 @@ fn read_file<F: Files>(
     let Ok(text) = characters(alloc, bytes) else {
         return Err(TokenEnd::NoMemory);
     };
-    if unit.begin(alloc, name, bytes.len() as u64).is_err() {
-        return Err(TokenEnd::NoMemory);
+    match unit.begin(alloc, name, bytes.len() as u64) {
+        Ok(()) => {}
+        Err(_) => return Err(TokenEnd::NoMemory),
     }
     read_text(alloc, files, unit, left, name, &text, start)
 }
@@ -206,5 +207,38 @@ fn put<F: Files>(
             }
         }
         Shape::Blank | Shape::Line | Shape::Block | Shape::Open => Ok(()),
+    }
+}
+
+/// The tokens of a unit and of the headers that it includes.
+pub fn get_tokens<F: Files>(alloc: Global, files: &mut F, unit: &str) -> Result<Tokens, TokenEnd>
+    ensures reads { MatchResult result (IsExpanded (F.held files.old) unit.now) (IsRefused (F.held files.old) unit.now) }
+    ensures causes { IfErr result (λ e. HasCause (F.held files.old) e (F.faults files.old) (F.faults files.new) (F.drawn files.old) (F.drawn files.new)) }
+    ensures files { AreKept (F.held files.old) (F.held files.new) (F.faults files.old) (F.faults files.new) (F.drawn files.old) (F.drawn files.new) }
+{
+    let mut read = Unit::new(alloc);
+    let start = read.start();
+    let bytes = match open_file(alloc, files, &read, unit, "", start) {
+        Ok(bytes) => bytes,
+        Err(e) => return Err(e),
+    };
+    match read_file(alloc, files, &mut read, DEPTH, unit, &bytes) {
+        Ok(end) => {
+            let Unit {
+                files,
+                list,
+                bytes,
+                included: _,
+                classes: _,
+                awaiting: _,
+            } = read;
+            Ok(Tokens {
+                files,
+                list,
+                end,
+                bytes,
+            })
+        }
+        Err(e) => Err(e),
     }
 }

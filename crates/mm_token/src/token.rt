@@ -1,5 +1,7 @@
 // A unit's tokens.
 
+ghost use Rattle.std.specs.Prelude.{◌+◌, ◌^◌, ◌≤◌, length};
+
 use mm_base::code::Code;
 use mm_base::place::Place;
 use mm_base::text::Text;
@@ -41,6 +43,10 @@ pub struct Tokens {
     pub end: Place,
     /// The bytes of all these files.
     pub bytes: u64,
+    pub ghost few: { length list ≤ bytes },
+    pub ghost some: { 1 ≤ length files },
+    pub ghost each: { length files ≤ bytes + 1 },
+    pub ghost limited: { bytes ≤ 2 ^ 20 },
 }
 
 /// Why a unit has no tokens.
