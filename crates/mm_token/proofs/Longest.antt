@@ -44,7 +44,7 @@ module _ (fr : Bool) where
 
   -- ---- runs
 
-  all_at : (p : ℕ → Bool) (a : List ℕ) (d : ℕ) (m : List ℕ) → IsTrue (list_all p (a ++ d ∷ m)) → IsTrue (p d)
+  pub all_at : (p : ℕ → Bool) (a : List ℕ) (d : ℕ) (m : List ℕ) → IsTrue (list_all p (a ++ d ∷ m)) → IsTrue (p d)
   all_at p [] d m h = and_left (p d) (list_all p m) h
   all_at p (x ∷ a) d m h = all_at p a d m (and_right (p x) (list_all p (a ++ d ∷ m)) h)
 
@@ -147,7 +147,7 @@ module _ (fr : Bool) where
   sort_slash true false true rest n h = refl
   sort_slash true false false rest n h = absurd (n h)
 
-  is_slash : (c : ℕ) → sort_of c ≡ sort_is.Slash → c ≡ 47
+  pub is_slash : (c : ℕ) → sort_of c ≡ sort_is.Slash → c ≡ 47
   is_slash c h = let e : (c == 47) ≡ true = sort_slash (is_character c) (is_blank c) (c == 47) _ (last_sorts (is_punctuation c) (is_digit c) (c == 35) (c == 95 || is_xid_start c)) h in grind (arith, e)
 
   slash_kinds : (P : Type 0) (other : Shape) (d : ℕ) (r : List ℕ) → IsPiece fr other (47 ∷ d ∷ r) →
@@ -235,7 +235,7 @@ module _ (fr : Bool) where
         pairs [] m p = p m.1
         pairs (y ∷ more) m p = m
 
-  no_empty : (kind : Shape) → IsPiece fr kind [] → ⊥
+  pub no_empty : (kind : Shape) → IsPiece fr kind [] → ⊥
   no_empty shape.Blank h = h
   no_empty shape.Line h = h
   no_empty shape.Block h = h

@@ -1,6 +1,7 @@
 //! The tokens of a unit and of the headers that it includes.
 #![tactic(auto)]
 
+pub mod law;
 pub mod names;
 pub mod piece;
 pub mod read;
