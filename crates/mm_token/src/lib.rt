@@ -2,11 +2,13 @@
 #![tactic(auto)]
 
 pub mod law;
-pub mod names;
-pub mod piece;
+mod names;
+mod piece;
 pub mod read;
-pub mod scan;
-pub mod text;
+mod scan;
+#[cfg(test)]
+mod tests;
+mod text;
 pub mod token;
-pub mod unit;
-pub mod words;
+mod unit;
+mod words;

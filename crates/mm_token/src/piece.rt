@@ -1,7 +1,7 @@
 // The pieces of a text: its tokens, its white space, its comments and its directives.
 
 ghost use Rattle.std.specs.Prelude.{◌≡◌, ◌≢◌, ◌+◌, ◌<◌, ◌≤◌, ◌==◌, not, length, take, IsTrue, MatchOption};
-ghost use Rattle.mm_token.specs.Characters.{sort_of, continues, is_pair, begins_pair};
+ghost use Rattle.mm_token.specs.Characters.{sort_of, is_punctuation as punctuation, continues, is_pair, begins_pair};
 ghost use Rattle.mm_token.specs.Pieces.{is_open, is_closed, Begins, HasNone};
 ghost use Rattle.mm_token.specs.Runs.{IsRunOf, MayBeMark, BeginsWith};
 ghost use Rattle.mm_token.specs.declared.piece.Sort.TheVariants.{Slash};
@@ -38,6 +38,34 @@ pub enum Shape {
     Directive,
 }
 
+/// Whether the character is a mark, or begins one; but a slash is told apart.
+fn is_punctuation(c: char) -> bool
+    ensures { result ≡ punctuation c }
+{
+    matches!(
+        c,
+        '{' | '}'
+            | '('
+            | ')'
+            | ';'
+            | ','
+            | '.'
+            | '~'
+            | '?'
+            | ':'
+            | '&'
+            | '|'
+            | '+'
+            | '-'
+            | '='
+            | '<'
+            | '>'
+            | '!'
+            | '*'
+            | '%'
+    )
+}
+
 /// What a character may begin.
 pub fn class_of(c: u32) -> Sort
     ensures { result ≡ sort_of c }
@@ -48,31 +76,13 @@ pub fn class_of(c: u32) -> Sort
     match c {
         ' ' | '\t' | '\n' | '\u{b}' | '\u{c}' | '\r' => Sort::Blank,
         '/' => Sort::Slash,
-        '{'
-        | '}'
-        | '('
-        | ')'
-        | ';'
-        | ','
-        | '.'
-        | '~'
-        | '?'
-        | ':'
-        | '&'
-        | '|'
-        | '+'
-        | '-'
-        | '='
-        | '<'
-        | '>'
-        | '!'
-        | '*'
-        | '%' => Sort::Punctuation,
         '0'..='9' => Sort::Digit,
         '#' => Sort::Hash,
         '_' => Sort::Letter,
         _ => {
-            if unicode_ident::is_xid_start(c) {
+            if is_punctuation(c) {
+                Sort::Punctuation
+            } else if unicode_ident::is_xid_start(c) {
                 Sort::Letter
             } else {
                 Sort::Other
