@@ -1,4 +1,5 @@
 pub mod Characters
+pub mod Forms
 pub mod Lemmas
 pub mod Levels
 pub mod Longest

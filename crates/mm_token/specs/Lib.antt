@@ -4,6 +4,7 @@ pub mod Pieces
 pub mod Cut
 pub mod Causes
 pub mod Expansion
+pub mod Forms
 pub mod OneReading
 pub mod Reads
 pub mod Runs
