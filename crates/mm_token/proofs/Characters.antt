@@ -14,7 +14,7 @@ use Rattle.mm_token.specs.declared.piece.Shape.TheVariants as shape
 use Rattle.mm_token.specs.Characters.{characters_of, spoiled, is_text, is_blank, is_pair, sort_of, sort_of_character, continues}
 use Rattle.mm_token.specs.Words.{past_blanks, past_word, ends_line, named_up_to, named_by, quoted, included_name}
 use Rattle.mm_token.specs.Pieces.{IsPiece}
-use Rattle.mm_token.specs.Reads.{IsText}
+use Rattle.mm_token.specs.Clauses.{IsText}
 use Rattle.mm_token.proofs.Lemmas.{both, and_left, and_right}
 
 spoiled_length : (bs : List ℕ) → length (spoiled bs) ≡ length bs

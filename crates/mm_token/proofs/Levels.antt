@@ -7,7 +7,7 @@ use Rattle.mm_token.specs.declared.token.TokenEnd.{TokenEnd}
 use Rattle.mm_token.specs.declared.token.TokenEnd.TheVariants.{Absent, Failed, TooLong, Fault, NoMemory}
 use Rattle.mm_token.specs.Characters.{characters_of, place_after}
 use Rattle.mm_token.specs.Cut.{lexical}
-use Rattle.mm_token.specs.Expansion.{State, byte_limit, with_file, file_start, Fits, KeepsOut, PutsText, PutsFile, StopsText, Refuses, Stopped, nothing_read, unit_start, IsExpanded, IsRefused}
+use Rattle.mm_token.specs.Tokens.{State, byte_limit, with_file, file_start, Fits, KeepsOut, PutsText, PutsFile, StopsText, Refuses, Stopped, nothing_read, unit_start, Reads, IsRefused}
 use Rattle.mm_token.specs.OneReading.{IsByContents, SameTokens, OneReading}
 use Rattle.mm_token.proofs.One.{text_once, stop_once, text_or_stop}
 
@@ -102,10 +102,10 @@ module _ (h : Contents) where
   by_contents NoMemory P c h = absurd c
 
   -- a unit is a file that no file includes
-  unit_puts : (unit : List ℕ) (t : Tokens) (x : IsExpanded (Some h) unit t) → PutsFile (Some h) 33 unit nothing_read x.1
+  unit_puts : (unit : List ℕ) (t : Tokens) (x : Reads (Some h) unit t) → PutsFile (Some h) 33 unit nothing_read x.1
   unit_puts unit t x = (x.0, x.2, x.3)
 
-  pub tokens_once : (unit : List ℕ) (t u : Tokens) → IsExpanded (Some h) unit t → IsExpanded (Some h) unit u → SameTokens t u
+  pub tokens_once : (unit : List ℕ) (t u : Tokens) → Reads (Some h) unit t → Reads (Some h) unit u → SameTokens t u
   tokens_once unit t u x y =
       let s : x.1 ≡ y.1 = (level 33).file_once unit nothing_read x.1 y.1 (unit_puts unit t x) (unit_puts unit u y) in
       let b : x.0 ≡ y.0 = one_bytes unit x.0 y.0 x.2.0 y.2.0 in
@@ -119,5 +119,5 @@ module _ (h : Contents) where
   pub fault_once : (unit : List ℕ) (d e : TokenEnd) → IsByContents d → IsByContents e → IsRefused (Some h) unit d → IsRefused (Some h) unit e → d ≡ e
   fault_once unit d e c k x y = (level 33).refused_once [] unit unit_start nothing_read d e (by_contents d _ c x) (by_contents e _ k y)
 
-  pub never_both : (unit : List ℕ) (t : Tokens) (e : TokenEnd) → IsByContents e → IsExpanded (Some h) unit t → IsRefused (Some h) unit e → ⊥
+  pub never_both : (unit : List ℕ) (t : Tokens) (e : TokenEnd) → IsByContents e → Reads (Some h) unit t → IsRefused (Some h) unit e → ⊥
   never_both unit t e c x y = (level 33).not_both [] unit unit_start nothing_read x.1 e (unit_puts unit t x) (by_contents e _ c y)

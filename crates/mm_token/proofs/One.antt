@@ -12,7 +12,7 @@ use Rattle.mm_token.specs.Characters.{characters_of, place_after}
 use Rattle.mm_token.specs.Words.{included_name}
 use Rattle.mm_token.specs.Pieces.{IsLongest}
 use Rattle.mm_token.specs.Cut.{Piece, text_of, fresh_after, fresh_behind, IsGood, IsCut, IsFault, code_of, lexical}
-use Rattle.mm_token.specs.Expansion.{State, byte_limit, with_file, file_start, was_included, encoded, file_named, Fits, KeepsOut, Includes, Puts, PutsAll, PutsText, PutsFile, StopsHere, StopsText, Refuses, Stopped, nothing_read, unit_start, IsExpanded, IsRefused}
+use Rattle.mm_token.specs.Tokens.{State, byte_limit, with_file, file_start, was_included, encoded, file_named, Fits, KeepsOut, Includes, Puts, PutsAll, PutsText, PutsFile, StopsHere, StopsText, Refuses, Stopped, nothing_read, unit_start, Reads, IsRefused}
 use Rattle.mm_token.specs.OneReading.{IsByContents, SameTokens, OneReading}
 use Rattle.mm_token.proofs.Reading.{place_after-append}
 use Rattle.mm_token.proofs.Unique.{SamePiece, one_longest, empty_or_longest}

@@ -6,7 +6,7 @@ use Rattle.mm_base.specs.declared.place.Place.{Place}
 use Rattle.mm_token.specs.declared.piece.Shape.{Shape}
 use Rattle.mm_token.specs.Characters.{place_after}
 use Rattle.mm_token.specs.Cut.{Piece, IsCut, IsGood, IsTaken, text_of, fresh_after, fresh_behind}
-use Rattle.mm_token.specs.Expansion.{State, Puts, PutsAll}
+use Rattle.mm_token.specs.Tokens.{State, Puts, PutsAll}
 
 pub record SoFar (File : List ℕ → State → State → Type 0) (text rest : List ℕ) (start at : Place) (fresh : Bool) (s t : State) : Type 0 where
   pub pieces : List Piece

@@ -2,7 +2,7 @@
 use Rattle.std.proofs.Common.{◌≡◌, ℕ, Bool, true, false, ◌||◌, cond, List, [], ◌∷◌, ◌++◌, refl, ap, sym, ◌∙◌}
 use Rattle.std.specs.List.{list_any}
 use Rattle.mm_token.specs.declared.token.Token.{Token}
-use Rattle.mm_token.specs.Expansion.{is_class_key, awaits_class, is_class_name}
+use Rattle.mm_token.specs.Tokens.{is_class_key, awaits_class, is_class_name}
 
 pub awaits_last : (ts : List Token) (t : Token) → awaits_class (ts ++ t ∷ []) ≡ is_class_key t
 awaits_last [] t = refl

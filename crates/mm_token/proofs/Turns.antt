@@ -14,10 +14,10 @@ use Rattle.mm_token.specs.declared.token.TokenEnd.TheVariants.{Absent, Failed, T
 use Rattle.mm_token.specs.Characters.{characters_of, place_after}
 use Rattle.mm_token.specs.Pieces.{IsLongest}
 use Rattle.mm_token.specs.Cut.{Piece, text_of, fresh_after, fresh_behind, IsCut, IsFault, IsTaken, code_of}
-use Rattle.mm_token.specs.Expansion.{State, byte_limit, with_file, file_start, was_included, file_named, Fits, KeepsOut, Includes, Puts, PutsAll, PutsText, PutsFile, StopsHere, StopsText, Refuses, Stopped, nothing_read, unit_start, IsRefused}
+use Rattle.mm_token.specs.Tokens.{State, byte_limit, with_file, file_start, was_included, file_named, Fits, KeepsOut, Includes, Puts, PutsAll, PutsText, PutsFile, StopsHere, StopsText, Refuses, Stopped, nothing_read, unit_start, IsRefused}
 use Rattle.mm_token.specs.Causes.{HasCause, AreKept}
 use Rattle.mm_token.specs.Unit.{state_of, Agrees, Grows, HasRoom, weight}
-use Rattle.mm_token.specs.Reads.{Ended, Went, IncludesFile, RefusesFile, RefusesPiece, PutsWhole, StopsWhole, PutsBytes, StopsBytes}
+use Rattle.mm_token.specs.Clauses.{Ended, Went, IncludesFile, RefusesFile, RefusesPiece, PutsWhole, StopsWhole, PutsBytes, StopsBytes}
 use Rattle.mm_token.proofs.Reading.{SoFar, Bounds}
 use Rattle.mm_token.proofs.Characters.{characters-short}
 

@@ -3,7 +3,7 @@ use Rattle.std.specs.Prelude.{◌≡◌, ℕ, ◌+◌, ◌≤◌, Option, MatchO
 use Rattle.mm_base.specs.Outside.{Contents, Rose, RoseBy}
 use Rattle.mm_token.specs.declared.token.TokenEnd.{TokenEnd}
 use Rattle.mm_token.specs.declared.token.TokenEnd.TheVariants.{Absent, Failed, TooLong, Fault, NoMemory}
-use Rattle.mm_token.specs.Expansion.{byte_limit}
+use Rattle.mm_token.specs.Tokens.{byte_limit}
 
 -- Where the files tell nothing, an absent one comes only where their faults rose, and one that is too long only where
 -- more than the limit was drawn; a failed read comes only where their faults rose.

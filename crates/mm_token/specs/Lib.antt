@@ -3,10 +3,10 @@ pub mod Characters
 pub mod Pieces
 pub mod Cut
 pub mod Causes
-pub mod Expansion
+pub mod Tokens
 pub mod Forms
 pub mod OneReading
-pub mod Reads
+pub mod Clauses
 pub mod Runs
 pub mod Unit
 pub mod Words

@@ -4,7 +4,7 @@ use Rattle.mm_base.specs.Outside.{Contents}
 use Rattle.mm_token.specs.declared.token.Tokens.{Tokens}
 use Rattle.mm_token.specs.declared.token.TokenEnd.{TokenEnd}
 use Rattle.mm_token.specs.declared.token.TokenEnd.TheVariants.{Absent, Failed, TooLong, Fault, NoMemory}
-use Rattle.mm_token.specs.Expansion.{IsExpanded, IsRefused}
+use Rattle.mm_token.specs.Tokens.{Reads, IsRefused}
 
 -- a refusal by what the files hold, and not by a failed read or for want of memory
 abbrev pub IsByContents : TokenEnd → Type 0
@@ -19,6 +19,6 @@ pub record SameTokens (t u : Tokens) : Type 0 where
   pub bytes : t.bytes ≡ u.bytes
 
 pub record OneReading : Type 0 where
-  pub one_list : (h : Contents) (unit : List ℕ) (t u : Tokens) → IsExpanded (Some h) unit t → IsExpanded (Some h) unit u → SameTokens t u
+  pub one_list : (h : Contents) (unit : List ℕ) (t u : Tokens) → Reads (Some h) unit t → Reads (Some h) unit u → SameTokens t u
   pub one_fault : (h : Contents) (unit : List ℕ) (d e : TokenEnd) → IsByContents d → IsByContents e → IsRefused (Some h) unit d → IsRefused (Some h) unit e → d ≡ e
-  pub not_both : (h : Contents) (unit : List ℕ) (t : Tokens) (e : TokenEnd) → IsByContents e → IsExpanded (Some h) unit t → IsRefused (Some h) unit e → ⊥
+  pub not_both : (h : Contents) (unit : List ℕ) (t : Tokens) (e : TokenEnd) → IsByContents e → Reads (Some h) unit t → IsRefused (Some h) unit e → ⊥

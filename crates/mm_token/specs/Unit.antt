@@ -6,7 +6,7 @@ use Rattle.mm_token.specs.declared.piece.Shape.{Shape}
 use Rattle.mm_token.specs.declared.piece.Shape.TheVariants as shape
 use Rattle.mm_token.specs.declared.unit.Unit.{Unit as Reader}
 use Rattle.mm_token.specs.Words.{is_among}
-use Rattle.mm_token.specs.Expansion.{State, awaits_class, is_class_name, byte_limit}
+use Rattle.mm_token.specs.Tokens.{State, awaits_class, is_class_name, byte_limit}
 
 abbrev pub state_of : Reader → State
 state_of u = record { files = u.files; tokens = u.list; bytes = u.bytes }

@@ -4,10 +4,10 @@ ghost use Rattle.std.specs.Prelude.{◌≡◌, ◌+◌, ◌<◌, ◌≤◌, leng
 ghost use Rattle.mm_token.specs.Characters.{place_after};
 ghost use Rattle.mm_token.specs.Pieces.{IsPiece};
 ghost use Rattle.mm_token.specs.Cut.{IsGood};
-ghost use Rattle.mm_token.specs.Expansion.{byte_limit, unit_start, nothing_read, Fits, KeepsOut, Puts, PutsFile, IsExpanded, IsRefused};
+ghost use Rattle.mm_token.specs.Tokens.{byte_limit, unit_start, nothing_read, Fits, KeepsOut, Puts, PutsFile, Reads, IsRefused};
 ghost use Rattle.mm_token.specs.Causes.{HasCause, AreKept};
 ghost use Rattle.mm_token.specs.Unit.{state_of, Agrees, HasRoom};
-ghost use Rattle.mm_token.specs.Reads.{Ended, Went, IsText, IncludesFile, RefusesFile, RefusesPiece, PutsWhole, StopsWhole, PutsBytes, StopsBytes};
+ghost use Rattle.mm_token.specs.Clauses.{Ended, Went, IsText, IncludesFile, RefusesFile, RefusesPiece, PutsWhole, StopsWhole, PutsBytes, StopsBytes};
 ghost use Rattle.mm_token.specs.declared.token.TokenEnd.TheVariants.{NoMemory};
 
 use crate::piece::Shape;
@@ -212,7 +212,7 @@ fn put<F: Files>(
 
 /// The tokens of a unit and of the headers that it includes.
 pub fn get_tokens<F: Files>(alloc: Global, files: &mut F, unit: &str) -> Result<Tokens, TokenEnd>
-    ensures reads { MatchResult result (IsExpanded (F.held files.old) unit.now) (IsRefused (F.held files.old) unit.now) }
+    ensures reads { MatchResult result (Reads (F.held files.old) unit.now) (IsRefused (F.held files.old) unit.now) }
     ensures causes { IfErr result (λ e. HasCause (F.held files.old) e (F.faults files.old) (F.faults files.new) (F.drawn files.old) (F.drawn files.new)) }
     ensures files { AreKept (F.held files.old) (F.held files.new) (F.faults files.old) (F.faults files.new) (F.drawn files.old) (F.drawn files.new) }
 {

@@ -3,7 +3,7 @@
 ghost use Rattle.std.specs.Prelude.{◌≡◌, ◌<◌, ℕ, List, length, true, cond, OnOk};
 ghost use Rattle.std.specs.BTreeSet.{contains_text};
 ghost use Rattle.mm_token.specs.Cut.{IsGood};
-ghost use Rattle.mm_token.specs.Expansion.{token_value, is_class_name, is_class_key};
+ghost use Rattle.mm_token.specs.Tokens.{token_value, is_class_name, is_class_key};
 
 use crate::names::Names;
 use crate::piece::Shape;
@@ -32,7 +32,7 @@ impl Unit {
     ghost use Rattle.std.specs.Prelude.{◌≡◌, ◌+◌, ◌<◌, ◌^◌, length, IsTrue, OnOk};
     ghost use Rattle.mm_token.specs.Characters.{is_text};
     ghost use Rattle.mm_token.specs.Cut.{IsGood};
-    ghost use Rattle.mm_token.specs.Expansion.{nothing_read, was_included, file_start, with_file, with_token, kind_of_word, token_of, token_value};
+    ghost use Rattle.mm_token.specs.Tokens.{nothing_read, was_included, file_start, with_file, with_token, kind_of_word, token_of, token_value};
     ghost use Rattle.mm_token.specs.Unit.{state_of, Agrees, Becomes, IsTokenShape};
 
     pub fn new(alloc: Global) -> Unit

@@ -1,5 +1,5 @@
 use Rattle.std.proofs.Common.{◌≡◌, ◌+◌, ◌<◌, ◌≤◌, length, ℕ, ◌-◌, ◌*◌}
-use Rattle.mm_token.specs.Expansion.{byte_limit, PutsFile}
+use Rattle.mm_token.specs.Tokens.{byte_limit, PutsFile}
 use Rattle.mm_token.specs.Causes.{AreKept}
 use Rattle.mm_token.specs.Unit.{state_of, Agrees, weight}
 use Rattle.mm_token.proofs.Reading.{SoFar, Bounds}

@@ -1,7 +1,7 @@
 use Rattle.std.proofs.Common.{◌≡◌, List, ap, ◌∙◌, sym, ◌++◌, ◌∷◌, []}
 use Rattle.std.specs.List.{list_any}
 use Rattle.mm_token.specs.declared.token.Token.{Token}
-use Rattle.mm_token.specs.Expansion.{State, is_class_name, awaits_class}
+use Rattle.mm_token.specs.Tokens.{State, is_class_name, awaits_class}
 use Rattle.mm_token.proofs.Tokens.{awaits_last, names_last}
 use Rattle.mm_token.proofs.unit.Unit.add.Goals as goal
 

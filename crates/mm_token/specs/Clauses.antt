@@ -7,7 +7,7 @@ use Rattle.mm_token.specs.declared.piece.Shape.TheVariants as shape
 use Rattle.mm_token.specs.declared.unit.Unit.{Unit as Reader}
 use Rattle.mm_token.specs.declared.token.TokenEnd.{TokenEnd}
 use Rattle.mm_token.specs.Characters.{characters_of, is_text, place_after}
-use Rattle.mm_token.specs.Expansion.{State, with_file, file_start, was_included, file_named, Fits, KeepsOut, Includes, Puts, PutsText, PutsFile, StopsText, Refuses, Stopped}
+use Rattle.mm_token.specs.Tokens.{State, with_file, file_start, was_included, file_named, Fits, KeepsOut, Includes, Puts, PutsText, PutsFile, StopsText, Refuses, Stopped}
 use Rattle.mm_token.specs.Causes.{HasCause}
 use Rattle.mm_token.specs.Unit.{state_of, Agrees, Grows}
 

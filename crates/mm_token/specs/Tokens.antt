@@ -4,6 +4,7 @@ use Rattle.std.specs.Prelude.{◌≡◌, ℕ, zero, suc, ◌+◌, ◌^◌, ◌<�
 use Rattle.std.specs.List.{list_any}
 use Rattle.std.specs.Str.{bytes_eq, encode_utf8_all}
 use Rattle.mm_base.specs.Outside.{Contents}
+use Rattle.mm_base.specs.declared.code.Code.{Code}
 use Rattle.mm_base.specs.declared.place.Place.{Place}
 use Rattle.mm_token.specs.declared.piece.Shape.{Shape}
 use Rattle.mm_token.specs.declared.piece.Shape.TheVariants as shape
@@ -179,8 +180,8 @@ abbrev pub unit_start : Place
 unit_start = record { file = 0; line = 1; col = 1 }
 
 -- These are the unit's tokens.
-abbrev pub IsExpanded : Option Contents → List ℕ → Tokens → Type 0
-IsExpanded held unit t =
+abbrev pub Reads : Option Contents → List ℕ → Tokens → Type 0
+Reads held unit t =
     (bytes : List ℕ) × (s : State) × Fits held unit bytes nothing_read
     × PutsText (PutsFile held 32) (characters_of bytes) unit_start (with_file nothing_read unit (length bytes)) s
     × (t.files ≡ s.files) × (t.list ≡ s.tokens) × (t.bytes ≡ s.bytes) × (t.end ≡ place_after unit_start (characters_of bytes))
@@ -194,3 +195,7 @@ Stopped _ P = P
 -- This is the first fault of the unit; nothing is said where a read failed or memory ran out.
 abbrev pub IsRefused : Option Contents → List ℕ → TokenEnd → Type 0
 IsRefused held unit e = Stopped e (Refuses held depth_limit [] unit unit_start nothing_read e)
+
+-- The first lexical fault of the unit has this code and stands at this place of this file.
+abbrev pub FirstLexicalFault : Option Contents → List ℕ → Code → Place → List ℕ → Type 0
+FirstLexicalFault held unit code place name = Refuses held depth_limit [] unit unit_start nothing_read (Fault code place name)
