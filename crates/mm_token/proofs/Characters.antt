@@ -1,5 +1,5 @@
 -- The characters of bytes are no more than the bytes, and what is made of characters.
-use Rattle.std.proofs.Common.{◌≡◌, ℕ, suc, zero, ◌≤◌, ◌+◌, ◌-◌, Bool, true, false, IsTrue, ◌&&◌, ◌||◌, List, [], ◌∷◌, ◌++◌, length, take, drop, refl, ap, sym, ◌∙◌, arith, length-append, length-drop, length-take, subst, Option, Some, None, inl, inr, ◌*◌}
+use Rattle.std.proofs.Common.{◌≡◌, ℕ, suc, zero, ◌≤◌, ◌+◌, ◌-◌, Bool, true, false, IsTrue, ◌&&◌, ◌||◌, List, [], ◌∷◌, length, take, drop, refl, sym, arith, length-append, length-drop, length-take, subst, Option, Some, None, inl, inr, ◌*◌}
 use Rattle.std.specs.Str.{chars, chars_after, continuation_len, lead_bits}
 use Rattle.std.specs.Prelude.{nat_lt, codes, position, ◌==◌, if◌then◌else◌, ◌⊎◌}
 use Rattle.std.specs.Str.Lossy.{utf8_valid_len}

@@ -1,15 +1,15 @@
 -- The forms of directives.
-use Rattle.std.proofs.Common.{◌≡◌, ◌≢◌, ℕ, zero, suc, ◌<◌, ◌≤◌, ◌+◌, Bool, true, false, not, ◌&&◌, ◌||◌, ◌==◌, if◌then◌else◌, cond, IsTrue, List, [], ◌∷◌, ◌++◌, ◌⊎◌, inl, inr, length, take, drop, get_or, refl, arith, sym, ◌∙◌, ap, subst, Option, Some, None, append-nil, append_assoc, length-append, add-one, drop-cons, length-drop, length-take}
+use Rattle.std.proofs.Common.{◌≡◌, ℕ, suc, ◌<◌, ◌+◌, Bool, true, false, not, ◌&&◌, ◌==◌, if◌then◌else◌, IsTrue, List, [], ◌∷◌, ◌++◌, ◌⊎◌, inl, inr, length, take, drop, get_or, refl, arith, sym, ◌∙◌, ap, subst, Option, Some, None, append-nil, length-append, add-one, length-drop, length-take}
 use Rattle.std.specs.Prelude.{codes, nat_lt, position}
-use Rattle.std.specs.List.{list_all, position_or_len, prefix_len}
+use Rattle.std.specs.List.{list_all, position_or_len}
 use Rattle.std.specs.Str.{IsUtf8, chars}
 use Rattle.std.specs.Str.Lossy.{utf8_valid_len}
-use Rattle.std.proofs.lemmas.List.{take_all, take-append-drop, nil_from_length}
+use Rattle.std.proofs.lemmas.List.{take_all, nil_from_length}
 use Rattle.std.proofs.lemmas.List.Quantifiers.{position-Some}
 use Rattle.std.proofs.lemmas.Str.{utf8_valid_len-IsUtf8}
 use Rattle.mm_token.specs.Characters.{characters_of, spoiled, is_text, is_blank}
-use Rattle.mm_token.specs.Words.{past_blanks, past_word, is_end, ends_line, named_up_to, named_by, quoted, included_name, is_once_behind, is_blank_then_once, is_once, is_pragma_once}
-use Rattle.mm_token.specs.Forms.{AllBlank, EndsLine, IsInclude, IsPragma, Forms}
+use Rattle.mm_token.specs.Words.{past_blanks, past_word, is_end, ends_line, named_up_to, named_by, quoted, included_name, is_once_behind, is_once, is_pragma_once}
+use Rattle.mm_token.specs.Forms.{AllBlank, EndsLine, IsInclude, IsPragma}
 use Rattle.mm_token.proofs.Lemmas.{both, and_left, and_right, all_of_take, run_split}
 
 -- ---- white space

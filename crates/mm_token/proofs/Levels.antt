@@ -1,5 +1,5 @@
 -- A file has one reading, at each depth.
-use Rattle.std.proofs.Common.{◌≡◌, ℕ, zero, suc, ◌<◌, ◌≤◌, ◌+◌, List, [], length, ◌⊎◌, inl, inr, refl, arith, sym, ◌∙◌, ap, subst, Option, Some, None}
+use Rattle.std.proofs.Common.{◌≡◌, ℕ, zero, suc, ◌<◌, ◌≤◌, ◌+◌, List, [], length, inl, inr, arith, sym, ◌∙◌, ap, subst, Some, None}
 use Rattle.mm_base.specs.Outside.{Contents}
 use Rattle.mm_base.specs.declared.place.Place.{Place}
 use Rattle.mm_token.specs.declared.token.Tokens.{Tokens}
@@ -8,7 +8,7 @@ use Rattle.mm_token.specs.declared.token.TokenEnd.TheVariants.{Absent, Failed, T
 use Rattle.mm_token.specs.Characters.{characters_of, place_after}
 use Rattle.mm_token.specs.Cut.{lexical}
 use Rattle.mm_token.specs.Tokens.{State, byte_limit, with_file, file_start, Fits, KeepsOut, PutsText, PutsFile, StopsText, Refuses, Stopped, nothing_read, unit_start, Reads, IsRefused}
-use Rattle.mm_token.specs.OneReading.{IsByContents, SameTokens, OneReading}
+use Rattle.mm_token.specs.OneReading.{IsByContents, SameTokens}
 use Rattle.mm_token.proofs.One.{text_once, stop_once, text_or_stop}
 
 module _ (h : Contents) where

@@ -1,5 +1,5 @@
 -- Why a piece is the longest: its first character says which kinds there may be.
-use Rattle.std.proofs.Common.{◌≡◌, ◌≢◌, ℕ, suc, zero, ◌<◌, ◌≤◌, Bool, true, false, ◌&&◌, ◌||◌, not, ◌==◌, if◌then◌else◌, IsTrue, List, [], ◌∷◌, ◌++◌, ◌⊎◌, inl, inr, length, get_or, take, drop, refl, arith, sym, ◌∙◌, ap, subst}
+use Rattle.std.proofs.Common.{◌≡◌, ◌≢◌, ℕ, suc, zero, ◌<◌, ◌≤◌, Bool, true, false, ◌||◌, not, ◌==◌, if◌then◌else◌, IsTrue, List, [], ◌∷◌, ◌++◌, ◌⊎◌, inl, inr, length, get_or, take, drop, refl, arith, sym, ◌∙◌, ap, subst}
 use Rattle.std.proofs.lemmas.List.{take-append-drop, append-nil}
 use Rattle.std.specs.List.{list_all}
 use Rattle.unicode_ident.specs.Ident.{is_xid_start}
@@ -7,11 +7,11 @@ use Rattle.mm_token.specs.declared.piece.Sort.{Sort}
 use Rattle.mm_token.specs.declared.piece.Sort.TheVariants as sort_is
 use Rattle.mm_token.specs.declared.piece.Shape.{Shape}
 use Rattle.mm_token.specs.declared.piece.Shape.TheVariants as shape
-use Rattle.mm_token.specs.Characters.{sort_of, sort_of_character, is_blank, is_punctuation, is_digit, continues, is_pair, begins_pair}
+use Rattle.mm_token.specs.Characters.{sort_of, is_blank, is_punctuation, is_digit, continues, is_pair, begins_pair}
 use Rattle.mm_token.specs.Pieces.{is_open, is_closed, ends_not, IsPiece, IsMark, IsLongest, HasNone, Begins}
 use Rattle.mm_token.specs.Runs.{IsRunOf, BeginsComment, IsHead, MayBeMark, BeginsWith}
 use lib.Utf8.{scalar as is_character}
-use Rattle.mm_token.proofs.Lemmas.{both, and_left, and_right, all_of_take}
+use Rattle.mm_token.proofs.Lemmas.{and_left, and_right, all_of_take}
 
 abbrev Fits : Shape → Sort → Type 0
 Fits shape.Blank s = s ≡ sort_is.Blank

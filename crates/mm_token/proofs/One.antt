@@ -1,21 +1,17 @@
 -- A text has one reading.
-use Rattle.std.proofs.Common.{◌≡◌, ℕ, zero, suc, ◌<◌, ◌≤◌, ◌+◌, Bool, true, false, List, [], ◌∷◌, ◌++◌, ◌⊎◌, inl, inr, length, refl, arith, sym, ◌∙◌, ap, subst, Option, Some, None}
-use Rattle.mm_base.specs.Outside.{Contents}
+use Rattle.std.proofs.Common.{◌≡◌, ℕ, Bool, true, false, List, [], ◌∷◌, inl, inr, refl, sym, ◌∙◌, ap, subst, Option, Some, None}
 use Rattle.mm_base.specs.declared.place.Place.{Place}
 use Rattle.mm_token.specs.declared.piece.Shape.{Shape}
 use Rattle.mm_token.specs.declared.piece.Shape.TheVariants as shape
-use Rattle.mm_token.specs.declared.words.Wrong.{Wrong}
-use Rattle.mm_token.specs.declared.token.Tokens.{Tokens}
 use Rattle.mm_token.specs.declared.token.TokenEnd.{TokenEnd}
-use Rattle.mm_token.specs.declared.token.TokenEnd.TheVariants.{Absent, Failed, TooLong, Fault, NoMemory}
-use Rattle.mm_token.specs.Characters.{characters_of, place_after}
+use Rattle.mm_token.specs.declared.token.TokenEnd.TheVariants.{Fault}
+use Rattle.mm_token.specs.Characters.{place_after}
 use Rattle.mm_token.specs.Words.{included_name}
 use Rattle.mm_token.specs.Pieces.{IsLongest}
-use Rattle.mm_token.specs.Cut.{Piece, text_of, fresh_after, fresh_behind, IsGood, IsCut, IsFault, code_of, lexical}
-use Rattle.mm_token.specs.Tokens.{State, byte_limit, with_file, file_start, was_included, encoded, file_named, Fits, KeepsOut, Includes, Puts, PutsAll, PutsText, PutsFile, StopsHere, StopsText, Refuses, Stopped, nothing_read, unit_start, Reads, IsRefused}
-use Rattle.mm_token.specs.OneReading.{IsByContents, SameTokens, OneReading}
+use Rattle.mm_token.specs.Cut.{Piece, text_of, fresh_after, fresh_behind, IsGood, IsCut, code_of}
+use Rattle.mm_token.specs.Tokens.{State, was_included, encoded, file_named, Includes, Puts, PutsAll, PutsText, StopsHere, StopsText}
 use Rattle.mm_token.proofs.Reading.{place_after-append}
-use Rattle.mm_token.proofs.Unique.{SamePiece, one_longest, empty_or_longest}
+use Rattle.mm_token.proofs.Unique.{one_longest, empty_or_longest}
 use Rattle.mm_token.proofs.Troubles.{fault_once, fault_or_good, fault_or_include, no_fault_at_end}
 
 -- how a reading ends: with a state, or with a refusal

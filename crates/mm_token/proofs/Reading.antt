@@ -1,11 +1,11 @@
 -- The pieces of a text so far, and what they put.
-use Rattle.std.proofs.Common.{◌≡◌, ℕ, ◌≤◌, ◌<◌, ◌+◌, ◌*◌, List, [], ◌∷◌, ◌++◌, length, refl, ap, sym, ◌∙◌, arith, append_assoc, append-nil, length-append, subst, if◌then◌else◌, Bool, true, false, ◌==◌}
+use Rattle.std.proofs.Common.{◌≡◌, ℕ, ◌≤◌, ◌+◌, ◌*◌, List, [], ◌∷◌, ◌++◌, length, refl, ap, sym, ◌∙◌, arith, append_assoc, append-nil, length-append, subst, if◌then◌else◌, Bool, true, false, ◌==◌}
 use Rattle.std.specs.Char.{len_utf8}
 use Rattle.std.proofs.lemmas.Str.{len_utf8_bounds}
 use Rattle.mm_base.specs.declared.place.Place.{Place}
 use Rattle.mm_token.specs.declared.piece.Shape.{Shape}
 use Rattle.mm_token.specs.Characters.{place_after}
-use Rattle.mm_token.specs.Cut.{Piece, IsCut, IsGood, IsTaken, text_of, fresh_after, fresh_behind}
+use Rattle.mm_token.specs.Cut.{Piece, IsCut, IsTaken, text_of, fresh_after, fresh_behind}
 use Rattle.mm_token.specs.Tokens.{State, Puts, PutsAll}
 
 pub record SoFar (File : List ℕ → State → State → Type 0) (text rest : List ℕ) (start at : Place) (fresh : Bool) (s t : State) : Type 0 where

@@ -1,24 +1,23 @@
 -- One lemma for each way that a reading goes on or ends.
-use Rattle.std.proofs.Common.{◌≡◌, ℕ, zero, suc, ◌≤◌, ◌<◌, ◌+◌, ◌-◌, ◌^◌, ◌⊎◌, inl, inr, Bool, true, false, List, [], ◌∷◌, ◌++◌, length, refl, ap, sym, ◌∙◌, arith, subst, Option, Some, None, min}
+use Rattle.std.proofs.Common.{◌≡◌, ℕ, zero, suc, ◌≤◌, ◌<◌, ◌+◌, ◌-◌, ◌⊎◌, inl, inr, Bool, true, false, List, [], ◌∷◌, ◌++◌, length, refl, ap, sym, ◌∙◌, arith, subst, Option, Some, None}
 use Rattle.std.specs.Prelude.{Result, Ok, Err, MatchResult, MatchOption}
-use Rattle.std.proofs.lemmas.List.{append-nil, nil_from_length, length-append}
+use Rattle.std.proofs.lemmas.List.{append-nil, length-append}
 use Rattle.mm_base.specs.Outside.{Contents, Rose, RoseBy}
 use Rattle.mm_base.specs.declared.place.Place.{Place}
 use Rattle.mm_base.specs.declared.code.Code.{Code}
 use Rattle.mm_token.specs.declared.piece.Shape.{Shape}
-use Rattle.mm_token.specs.declared.piece.Shape.TheVariants as shape
 use Rattle.mm_token.specs.declared.words.Wrong.{Wrong}
 use Rattle.mm_token.specs.declared.unit.Unit.{Unit as Reader}
 use Rattle.mm_token.specs.declared.token.TokenEnd.{TokenEnd}
 use Rattle.mm_token.specs.declared.token.TokenEnd.TheVariants.{Absent, Failed, TooLong, Fault, NoMemory}
 use Rattle.mm_token.specs.Characters.{characters_of, place_after}
 use Rattle.mm_token.specs.Pieces.{IsLongest}
-use Rattle.mm_token.specs.Cut.{Piece, text_of, fresh_after, fresh_behind, IsCut, IsFault, IsTaken, code_of}
-use Rattle.mm_token.specs.Tokens.{State, byte_limit, with_file, file_start, was_included, file_named, Fits, KeepsOut, Includes, Puts, PutsAll, PutsText, PutsFile, StopsHere, StopsText, Refuses, Stopped, nothing_read, unit_start, IsRefused}
+use Rattle.mm_token.specs.Cut.{Piece, text_of, fresh_after, fresh_behind, IsCut, IsFault, code_of}
+use Rattle.mm_token.specs.Tokens.{State, byte_limit, with_file, file_start, was_included, Fits, KeepsOut, Includes, Puts, PutsText, PutsFile, StopsHere, StopsText, Refuses, Stopped, nothing_read, unit_start, IsRefused}
 use Rattle.mm_token.specs.Causes.{HasCause, AreKept}
-use Rattle.mm_token.specs.Unit.{state_of, Agrees, Grows, HasRoom, weight}
+use Rattle.mm_token.specs.Unit.{state_of, Grows, HasRoom, weight}
 use Rattle.mm_token.specs.Clauses.{Ended, Went, IncludesFile, RefusesFile, RefusesPiece, PutsWhole, StopsWhole, PutsBytes, StopsBytes}
-use Rattle.mm_token.proofs.Reading.{SoFar, Bounds}
+use Rattle.mm_token.proofs.Reading.{SoFar}
 use Rattle.mm_token.proofs.Characters.{characters-short}
 
 -- ---- ends

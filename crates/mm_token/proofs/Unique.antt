@@ -1,13 +1,12 @@
 -- A text is cut in one way.
-use Rattle.std.proofs.Common.{◌≡◌, ◌≢◌, ℕ, zero, suc, ◌<◌, ◌+◌, Bool, true, false, not, ◌&&◌, ◌||◌, ◌==◌, if◌then◌else◌, IsTrue, List, [], ◌∷◌, ◌++◌, ◌⊎◌, inl, inr, length, refl, arith, sym, ◌∙◌, ap, subst}
-use Rattle.std.proofs.lemmas.List.{append-nil}
+use Rattle.std.proofs.Common.{◌≡◌, ℕ, Bool, true, false, not, ◌&&◌, ◌==◌, if◌then◌else◌, IsTrue, List, [], ◌∷◌, ◌++◌, inl, inr, refl, arith, sym, ◌∙◌, ap, subst}
 use Rattle.mm_token.specs.declared.piece.Sort.{Sort}
 use Rattle.mm_token.specs.declared.piece.Sort.TheVariants as sort_is
 use Rattle.mm_token.specs.declared.piece.Shape.{Shape}
 use Rattle.mm_token.specs.declared.piece.Shape.TheVariants as shape
 use Rattle.mm_token.specs.Characters.{sort_of, is_pair}
 use Rattle.mm_token.specs.Pieces.{is_open, is_closed, ends_not, IsPiece, IsLongest, HasNone}
-use Rattle.mm_token.proofs.Lemmas.{and_left, and_right}
+use Rattle.mm_token.proofs.Lemmas.{and_right}
 use Rattle.mm_token.proofs.Longest.{no_empty, is_slash}
 
 -- ---- the shape of a piece is told by its text

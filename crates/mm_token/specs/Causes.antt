@@ -2,7 +2,7 @@
 use Rattle.std.specs.Prelude.{◌≡◌, ℕ, ◌+◌, ◌≤◌, Option, MatchOption}
 use Rattle.mm_base.specs.Outside.{Contents, Rose, RoseBy}
 use Rattle.mm_token.specs.declared.token.TokenEnd.{TokenEnd}
-use Rattle.mm_token.specs.declared.token.TokenEnd.TheVariants.{Absent, Failed, TooLong, Fault, NoMemory}
+use Rattle.mm_token.specs.declared.token.TokenEnd.TheVariants.{Absent, Failed, TooLong}
 use Rattle.mm_token.specs.Tokens.{byte_limit}
 
 -- Where the files tell nothing, an absent one comes only where their faults rose, and one that is too long only where

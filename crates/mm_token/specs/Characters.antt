@@ -1,7 +1,7 @@
 -- The characters of a file, and what each may begin. Characters are numbers.
 -- A unit's text is UTF-8 (own; ISO/IEC 14882:1998, 2.1 leaves the physical characters open). Where bytes stop
 -- being UTF-8, the first of them stands as a number that is no character, and those behind it one by one.
-use Rattle.std.specs.Prelude.{ℕ, ◌+◌, Bool, true, false, ◌&&◌, ◌||◌, ◌==◌, if◌then◌else◌, List, [], ◌∷◌, ◌++◌, nat_le, take, drop}
+use Rattle.std.specs.Prelude.{ℕ, ◌+◌, Bool, false, ◌&&◌, ◌||◌, ◌==◌, if◌then◌else◌, List, [], ◌∷◌, ◌++◌, nat_le, take, drop}
 use Rattle.std.specs.List.{list_all}
 use Rattle.std.specs.Char.{len_utf8}
 use Rattle.std.specs.Str.{chars}

@@ -1,5 +1,5 @@
 -- What the reader's functions answer.
-use Rattle.std.specs.Prelude.{◌≡◌, ℕ, ◌+◌, ◌<◌, ◌≤◌, false, IsTrue, List, length, Option, Some, Result, MatchResult}
+use Rattle.std.specs.Prelude.{◌≡◌, ℕ, ◌<◌, false, IsTrue, List, length, Option, Some}
 use Rattle.mm_base.specs.Outside.{Contents}
 use Rattle.mm_base.specs.declared.place.Place.{Place}
 use Rattle.mm_token.specs.declared.piece.Shape.{Shape}
@@ -7,7 +7,7 @@ use Rattle.mm_token.specs.declared.piece.Shape.TheVariants as shape
 use Rattle.mm_token.specs.declared.unit.Unit.{Unit as Reader}
 use Rattle.mm_token.specs.declared.token.TokenEnd.{TokenEnd}
 use Rattle.mm_token.specs.Characters.{characters_of, is_text, place_after}
-use Rattle.mm_token.specs.Tokens.{State, with_file, file_start, was_included, file_named, Fits, KeepsOut, Includes, Puts, PutsText, PutsFile, StopsText, Refuses, Stopped}
+use Rattle.mm_token.specs.Tokens.{State, with_file, file_start, was_included, file_named, Includes, PutsText, PutsFile, StopsText, Refuses, Stopped}
 use Rattle.mm_token.specs.Causes.{HasCause}
 use Rattle.mm_token.specs.Unit.{state_of, Agrees, Grows}
 

@@ -3,7 +3,7 @@ use Rattle.std.specs.Prelude.{◌≡◌, List, ℕ, Some}
 use Rattle.mm_base.specs.Outside.{Contents}
 use Rattle.mm_token.specs.declared.token.Tokens.{Tokens}
 use Rattle.mm_token.specs.declared.token.TokenEnd.{TokenEnd}
-use Rattle.mm_token.specs.declared.token.TokenEnd.TheVariants.{Absent, Failed, TooLong, Fault, NoMemory}
+use Rattle.mm_token.specs.declared.token.TokenEnd.TheVariants.{Failed, NoMemory}
 use Rattle.mm_token.specs.Tokens.{Reads, IsRefused}
 
 -- a refusal by what the files hold, and not by a failed read or for want of memory

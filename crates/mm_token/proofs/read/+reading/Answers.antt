@@ -1,10 +1,10 @@
-use Rattle.std.proofs.Common.{◌≡◌, ◌<◌, ◌≤◌, ◌+◌, ℕ, List, [], length, arith, rules, sym, ap, ◌∙◌, refl}
+use Rattle.std.proofs.Common.{◌≡◌, ◌<◌, length, arith, rules, sym, ap, ◌∙◌}
 use Rattle.std.proofs.lemmas.List.{nil_from_length}
 use Rattle.std.proofs.lemmas.Grind.{common_steps}
 use Rattle.mm_base.specs.declared.place.Place.{Place}
 use Rattle.mm_token.specs.Characters.{characters_of}
 use Rattle.mm_token.specs.Unit.{state_of, HasRoom}
-use Rattle.mm_token.proofs.Characters.{name_is_text, token_is_text, characters-short}
+use Rattle.mm_token.proofs.Characters.{name_is_text, token_is_text}
 use Rattle.mm_token.proofs.Reading.{one_more, bounds_more, taken_length}
 use Rattle.mm_token.proofs.Turns.{kept_out, stopped_inside, went_inside, text_room, text_short, of_bytes, stops_fault, stops_piece, whole, kept_then, puts_at, piece_room, piece_count}
 use Rattle.mm_token.proofs.read.+reading.Goals as goal

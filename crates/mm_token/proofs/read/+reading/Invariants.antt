@@ -1,4 +1,4 @@
-use Rattle.std.proofs.Common.{◌≡◌, ◌+◌, ◌<◌, ◌≤◌, length, ℕ, ◌-◌, ◌*◌}
+use Rattle.std.proofs.Common.{◌+◌, ◌≤◌, length, ◌*◌}
 use Rattle.mm_token.specs.Tokens.{byte_limit, PutsFile}
 use Rattle.mm_token.specs.Causes.{AreKept}
 use Rattle.mm_token.specs.Unit.{state_of, Agrees, weight}

@@ -1,4 +1,3 @@
-use Rattle.std.proofs.Common.{arith}
 use Rattle.mm_token.proofs.Turns.{expanded, refused, counted}
 use Rattle.mm_token.proofs.read.get_tokens.Goals as goal
 

@@ -1,4 +1,4 @@
-use Rattle.std.proofs.Common.{◌≡◌, subst, sym}
+use Rattle.std.proofs.Common.{◌≡◌, subst}
 use Rattle.std.specs.Prelude.{string_bytes, cond, true}
 use Rattle.std.specs.BTreeSet.{contains_text}
 use Rattle.std.specs.Str.{bytes_eq}
