@@ -24,7 +24,7 @@ use Rattle.mm_token.proofs.Characters.{characters-short}
 
 stopped_map : (e : TokenEnd) (P Q : Type 0) → (P → Q) → Stopped e P → Stopped e Q
 stopped_map (Absent n p) P Q f h = f h
-stopped_map (Failed n) P Q f h = tt
+stopped_map (Failed n) P Q f h = f h
 stopped_map (TooLong n) P Q f h = f h
 stopped_map (Fault c p n) P Q f h = f h
 stopped_map NoMemory P Q f h = tt

@@ -142,13 +142,14 @@ Lacks held name = IfSome held (λ h. h name ≡ None)
 abbrev pub IsLong : Option Contents → List ℕ → Type 0
 IsLong held name = IfSome held (λ h. (bytes : List ℕ) × (h name ≡ Some bytes) × (byte_limit < length bytes))
 
--- what keeps a file from being begun, which a directive at this place of the file `from` names
+-- what keeps a file from being begun, which a directive at this place of the file `from` names; a read may fail at any
 abbrev pub KeepsOut : Option Contents → List ℕ → List ℕ → Place → State → TokenEnd → Type 0
 KeepsOut held name from at s (Absent n p) = Lacks held name × (n ≡ name) × (p ≡ at)
 KeepsOut held name from at s (TooLong n) = IsLong held name × (n ≡ name)
 KeepsOut held name from at s (Fault code p n) =
     (bytes : List ℕ) × Holds held name bytes × (length bytes ≤ byte_limit) × (byte_limit < s.bytes + length bytes) × (code ≡ lexical 6) × (p ≡ at) × (n ≡ from)
-KeepsOut held name from at s _ = ⊥
+KeepsOut held name from at s (Failed n) = n ≡ name
+KeepsOut held name from at s NoMemory = ⊥
 
 -- A text stops here: a lexical fault of its own, or a directive at which the included file is refused.
 abbrev pub StopsHere : (List ℕ → Place → State → TokenEnd → Type 0) → List ℕ → Bool → List ℕ → Place → State → TokenEnd → Type 0
@@ -186,13 +187,12 @@ Reads held unit t =
     × PutsText (PutsFile held 32) (characters_of bytes) unit_start (with_file nothing_read unit (length bytes)) s
     × (t.files ≡ s.files) × (t.list ≡ s.tokens) × (t.bytes ≡ s.bytes) × (t.end ≡ place_after unit_start (characters_of bytes))
 
--- a fact on why there are no tokens, where no read failed and memory didn't run out
+-- a fact on why there are no tokens, where memory didn't run out
 abbrev pub Stopped : TokenEnd → Type 0 → Type 0
-Stopped (Failed n) P = Unit {0}
 Stopped NoMemory P = Unit {0}
 Stopped _ P = P
 
--- This is the first fault of the unit; nothing is said where a read failed or memory ran out.
+-- This is the first refusal of the unit; nothing is said where memory ran out.
 abbrev pub IsRefused : Option Contents → List ℕ → TokenEnd → Type 0
 IsRefused held unit e = Stopped e (Refuses held depth_limit [] unit unit_start nothing_read e)
 
