@@ -1,5 +1,8 @@
 // A unit's tokens.
 
+ghost use Rattle.std.specs.Prelude.{◌+◌, ◌^◌, ◌≤◌, length};
+
+use mm_base::code::Code;
 use mm_base::place::Place;
 use mm_base::text::Text;
 use sqlite_items::Items;
@@ -40,4 +43,22 @@ pub struct Tokens {
     pub end: Place,
     /// The bytes of all these files.
     pub bytes: u64,
+    pub ghost few: { length list ≤ bytes },
+    pub ghost some: { 1 ≤ length files },
+    pub ghost each: { length files ≤ bytes + 1 },
+    pub ghost limited: { bytes ≤ 2 ^ 20 },
+}
+
+/// Why a unit has no tokens.
+#[derive(Drop)]
+pub enum TokenEnd {
+    /// No file of this name is held; a directive at this place names it. The unit's own has 1:1 of file 0.
+    Absent(Text, Place),
+    /// A file couldn't be read.
+    Failed(Text),
+    /// A file is longer than its limit.
+    TooLong(Text),
+    /// A fault of the text, its place, and the name of the file where that is.
+    Fault(Code, Place, Text),
+    NoMemory,
 }

@@ -1,0 +1,11 @@
+pub mod Characters
+pub mod Forms
+pub mod Lemmas
+pub mod Levels
+pub mod Longest
+pub mod One
+pub mod Reading
+pub mod Tokens
+pub mod Troubles
+pub mod Turns
+pub mod Unique

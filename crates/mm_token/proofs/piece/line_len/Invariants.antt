@@ -1,0 +1,8 @@
+use Rattle.std.proofs.Common.{length, ◌-◌, ◌<◌, ◌≤◌, ◌==◌, not, IsTrue, ℕ, get_or}
+use Rattle.mm_token.proofs.piece.line_len.Given as goal
+
+abbrev pub invariant-loop-n : goal.invariant-loop-n
+invariant-loop-n l = record { within : l.n ≤ length l.text; passes : (k : ℕ) → k < l.n → IsTrue (not (get_or l.text k 0 == 10)) }
+
+abbrev pub decreases-loop-n : goal.decreases-loop-n
+decreases-loop-n l = length l.text - l.n
