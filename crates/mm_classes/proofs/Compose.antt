@@ -1,12 +1,10 @@
 -- Composition stays among the subobjects_of, is associative, and makes containment an order.
-use Rattle.std.proofs.Common.{◌≡◌, ◌≢◌, ℕ, zero, suc, ◌+◌, ◌<◌, ◌≤◌, List, [], ◌∷◌, ◌++◌, length, get_or, map, refl, sym, subst, ap, ◌∙◌, inl, inr, arith, append_assoc, append-nil}
-use Rattle.std.specs.Prelude.{Bool, true, false, ◌⊎◌, nat_eq, ◌||◌, cond}
-use Rattle.std.proofs.lemmas.Bool.Decides.{nat_tests, eqb_tells}
+use Rattle.std.proofs.Common.{◌≡◌, ◌≢◌, ℕ, ◌<◌, ◌≤◌, List, [], ◌∷◌, ◌++◌, refl, sym, subst, ap, ◌∙◌, inl, inr, arith, append_assoc, append-nil}
+use Rattle.std.specs.Prelude.{◌⊎◌}
+use Rattle.std.proofs.lemmas.Bool.Decides.{eqb_tells}
 use Rattle.std.proofs.lemmas.List.{append_cancel_left}
-use Rattle.mm_classes.specs.declared.class.Base.{Base}
-use Rattle.mm_classes.specs.Lists.{Has, first, later}
-use Rattle.mm_classes.specs.Classes.{Class, class_at, bases_of, IsClassList}
-use Rattle.mm_classes.specs.Subobjects.{Path, IsPlainBase, IsChain, IsVirtual, listed, below, IsSubobject, last_of, end_of, compose, IsWithin}
+use Rattle.mm_classes.specs.Classes.{Class, IsClassList}
+use Rattle.mm_classes.specs.Subobjects.{Path, IsChain, IsVirtual, listed, below, IsSubobject, last_of, end_of, compose, IsWithin}
 use Rattle.mm_classes.proofs.Subs.{virtual_falls, chain_falls}
 
 pub last_of-append : (c : ℕ) (t u : Path) → last_of c (t ++ u) ≡ last_of (last_of c t) u

@@ -1,9 +1,8 @@
 -- A class list with one more name is one, and has the complete classes that it had.
-use Rattle.std.proofs.Common.{◌≡◌, ◌≢◌, ℕ, zero, suc, ◌+◌, ◌<◌, ◌≤◌, List, [], ◌∷◌, ◌++◌, length, get_or, map, refl, sym, subst, ap, ◌∙◌, inl, inr, arith, length-append}
-use Rattle.std.specs.Prelude.{Bool, true, false, cond, ◌⊎◌}
+use Rattle.std.proofs.Common.{◌≡◌, ℕ, ◌<◌, ◌≤◌, List, [], ◌∷◌, ◌++◌, length, map, refl, sym, subst, ap, ◌∙◌, inl, inr, arith, length-append}
+use Rattle.std.specs.Prelude.{true, ◌⊎◌}
 use Rattle.std.proofs.lemmas.List.{get_or_past, get_or_append_left, get_or_push, map-append}
 use Rattle.mm_classes.specs.declared.class.Base.{Base}
-use Rattle.mm_classes.specs.declared.class.Member.{Member}
 use Rattle.mm_classes.specs.Lists.{Has, first, later, Distinct}
 use Rattle.mm_classes.specs.Classes.{Class, class_at, bases_of, members_of, names_in, unknown, IsClassList, IsMemberList, complete_count}
 use Rattle.mm_classes.specs.Adding.{fresh}

@@ -1,14 +1,13 @@
 -- c derives from b exactly where another subobject of c ends in b.
-use Rattle.std.proofs.Common.{◌≡◌, ◌≢◌, ℕ, zero, suc, ◌+◌, ◌<◌, ◌≤◌, List, [], ◌∷◌, ◌++◌, length, get_or, map, refl, sym, subst, ap, ◌∙◌, inl, inr, arith}
-use Rattle.std.specs.Prelude.{Bool, true, false, cond, ◌⊎◌}
-use Rattle.std.specs.Bool.{Decides}
+use Rattle.std.proofs.Common.{◌≡◌, ◌≢◌, ℕ, ◌<◌, List, [], ◌∷◌, length, refl, sym, subst, ap, ◌∙◌, inl, inr, arith}
+use Rattle.std.specs.Prelude.{true, false, ◌⊎◌}
 use Rattle.mm_classes.specs.declared.class.Base.{Base}
 use Rattle.mm_classes.specs.declared.answer.Up.{Up}
 use Rattle.mm_classes.specs.declared.answer.Up.TheVariants as up
-use Rattle.mm_classes.specs.Lists.{Has, first, later}
-use Rattle.mm_classes.specs.Classes.{Class, class_at, bases_of, IsClassList, Derives, direct, through}
+use Rattle.mm_classes.specs.Lists.{Has}
+use Rattle.mm_classes.specs.Classes.{Class, bases_of, IsClassList, Derives, direct, through}
 use Rattle.mm_classes.specs.Subobjects.{Path, IsChain, IsVirtual, listed, below, IsSubobject, last_of, end_of, compose, subobjects_of}
-use Rattle.mm_classes.specs.Questions.{Picks, IsUpOf, node}
+use Rattle.mm_classes.specs.Questions.{IsUpOf, node}
 use Rattle.mm_classes.proofs.Subs.{subobjects_are, are_subobjects}
 use Rattle.mm_classes.proofs.Compose.{compose-sub, compose-end}
 use Rattle.mm_classes.proofs.Answering.{Has-get_or, place_from_Has}

@@ -4,7 +4,7 @@ use Rattle.std.specs.Prelude.{Bool, true, false}
 use Rattle.mm_classes.specs.declared.class.Base.{Base}
 use Rattle.mm_classes.specs.declared.class.Access.TheVariants.{Public}
 use Rattle.mm_classes.specs.Classes.{Class}
-use Rattle.mm_classes.specs.Subobjects.{Path, subobjects_of, virtual_bases, compose}
+use Rattle.mm_classes.specs.Subobjects.{subobjects_of, compose}
 
 abbrev to : ℕ → Bool → Base
 to c s = record { class = c; shared = s; access = Public }

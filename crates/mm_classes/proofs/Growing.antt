@@ -1,20 +1,19 @@
 -- What stays where a class is declared or completed, and what the new class has.
-use Rattle.std.proofs.Common.{◌≡◌, ◌≢◌, ℕ, zero, suc, ◌+◌, ◌<◌, ◌≤◌, List, [], ◌∷◌, ◌++◌, length, get_or, set, map, refl, sym, subst, ap, ap₂, ◌∙◌, inl, inr, arith, length-set}
-use Rattle.std.specs.Prelude.{Bool, true, false, cond, ◌⊎◌, nat_eq}
+use Rattle.std.proofs.Common.{◌≡◌, ◌≢◌, ℕ, zero, suc, ◌+◌, ◌<◌, ◌≤◌, List, [], ◌∷◌, ◌++◌, length, set, map, refl, sym, subst, ap, ap₂, ◌∙◌, inl, inr, arith, length-set}
+use Rattle.std.specs.Prelude.{true, false, cond, ◌⊎◌, nat_eq}
 use Rattle.std.specs.List.{flat_map}
-use Rattle.std.proofs.lemmas.Bool.Decides.{nat_tests, eqb_tells}
-use Rattle.std.proofs.lemmas.List.{get_or_past, get_or-set_same, get_or-set_other}
+use Rattle.std.proofs.lemmas.Bool.Decides.{eqb_tells}
+use Rattle.std.proofs.lemmas.List.{get_or-set_same, get_or-set_other}
 use Rattle.mm_classes.specs.declared.class.Base.{Base}
 use Rattle.mm_classes.specs.declared.class.Member.{Member}
-use Rattle.mm_classes.specs.Lists.{Has, first, later, Distinct, firsts, with_all_new}
+use Rattle.mm_classes.specs.Lists.{Has, Distinct, firsts, with_all_new}
 use Rattle.mm_classes.specs.Classes.{Class, class_at, bases_of, members_of, names_in, name_of, unknown, IsClassList, IsMemberList, HasVirtual, Derives, direct, through, IsPolymorphic, complete_count, most, depth_within, depth_of}
 use Rattle.mm_classes.specs.Subobjects.{Path, plain_bases, chains, met, walk, virtual_bases, subobjects_of}
 use Rattle.mm_classes.specs.Adding.{added, new_class, new_virtual_bases, new_chains, new_subobjects, new_depth, IsNewPolymorphic, declares, inherits}
-use Rattle.mm_classes.proofs.Lists.{flat_map-same, Has-append, Has-flat_map_from, with_all_new-append, with_all_new-once, with_all_new-from, with_firsts}
-use Rattle.mm_classes.proofs.Subs.{plain_is, chains-same, walk-same, walk_is, no_bases, deep, complete_count-le, met_is}
-use Rattle.mm_classes.proofs.Answering.{complete_below, virtual_complete}
+use Rattle.mm_classes.proofs.Lists.{flat_map-same, Has-append, Has-flat_map_from, with_all_new-append, with_all_new-from, with_firsts}
+use Rattle.mm_classes.proofs.Subs.{plain_is, chains-same, walk-same, walk_is, no_bases, deep, met_is}
+use Rattle.mm_classes.proofs.Answering.{virtual_complete}
 use Rattle.mm_classes.proofs.Depth.{map-same, depth-all, depth-unfold}
-use Rattle.mm_classes.specs.Subobjects.{IsVirtual}
 
 each_once : (f : ℕ → List ℕ) (bs : List Base) (seen : List ℕ)
     → with_all_new seen (flat_map (λ (b : Base). met b ++ firsts (f b.class)) bs) ≡ with_all_new seen (flat_map (λ (b : Base). met b ++ f b.class) bs)
@@ -147,6 +146,9 @@ new_virtual_bases-complete g ok bs known v h =
           ])
     ]
 
+pub added-names : (g : List Class) (c : ℕ) (bs : List Base) (ms : List Member) → c < length g → names_in (added g c bs ms) ≡ names_in g
+added-names g c bs ms h = names-set g c (new_class g c bs ms) h refl
+
 -- a class that was incomplete is completed by bases that are complete, each once
 module _ (g : List Class) (ok : IsClassList g) (c : ℕ) (bs : List Base) (ms : List Member)
     (here : c < length g) (open_yet : (class_at g c).complete ≡ false) (known : (b : Base) → Has bs b → (class_at g b.class).complete ≡ true)
@@ -216,10 +218,10 @@ module _ (g : List Class) (ok : IsClassList g) (c : ℕ) (bs : List Base) (ms : 
     named = subst Distinct (sym (names-set g c (new_class g c bs ms) here refl)) ok.named;
   }
 
-  as_before : (x : ℕ) → (class_at g x).complete ≡ true → class_at (added g c bs ms) x ≡ class_at g x
+  pub as_before : (x : ℕ) → (class_at g x).complete ≡ true → class_at (added g c bs ms) x ≡ class_at g x
   as_before x k = at_other x (complete_other x k)
 
-  as_long : length g ≤ length (added g c bs ms)
+  pub as_long : length g ≤ length (added g c bs ms)
   as_long = let l = length-set g c (new_class g c bs ms) in omega arith
 
   pub added-kept : (x : ℕ) → (class_at g x).complete ≡ true → subobjects_of (added g c bs ms) x ≡ subobjects_of g x

@@ -1,11 +1,11 @@
 -- What stands in `subobjects_of`: exactly the paths of `IsSubobject`, each once.
-use Rattle.std.proofs.Common.{◌≡◌, ◌≢◌, ℕ, zero, suc, ◌+◌, ◌<◌, ◌≤◌, List, [], ◌∷◌, ◌++◌, length, get_or, map, refl, sym, subst, ap, ◌∙◌, inl, inr, arith, append_assoc}
-use Rattle.std.specs.Prelude.{Bool, true, false, ◌⊎◌, nat_eq, ◌||◌, cond}
+use Rattle.std.proofs.Common.{◌≡◌, ℕ, zero, suc, ◌<◌, ◌≤◌, List, [], ◌∷◌, ◌++◌, length, map, refl, sym, subst, ap, ◌∙◌, inl, inr, arith}
+use Rattle.std.specs.Prelude.{true, false, cond}
 use Rattle.std.specs.List.{flat_map}
 use Rattle.mm_classes.specs.declared.class.Base.{Base}
-use Rattle.mm_classes.specs.Lists.{Has, first, later, Distinct, has, with_new, with_all_new, firsts}
-use Rattle.mm_classes.specs.Classes.{Class, class_at, bases_of, IsClassList, complete_count}
-use Rattle.mm_classes.specs.Subobjects.{Path, IsPlainBase, IsChain, IsVirtual, listed, below, IsSubobject, plain_bases, chains, met, walk, virtual_bases, subobjects_of, last_of, end_of, compose}
+use Rattle.mm_classes.specs.Lists.{Has, first, later, Distinct}
+use Rattle.mm_classes.specs.Classes.{Class, bases_of, IsClassList, complete_count}
+use Rattle.mm_classes.specs.Subobjects.{Path, IsChain, IsVirtual, listed, below, IsSubobject, plain_bases, chains, met, walk, virtual_bases, subobjects_of, last_of}
 use Rattle.mm_classes.proofs.Lists.{Has-left, Has-right, Has-append, Has-map, Has-map_from, Has-flat_map, Has-flat_map_from, flat_map-same, Distinct-append, Distinct-map, Distinct-flat_map, no_elements, with_all_new-from, with_all_new-has, with_all_new-Distinct}
 
 -- the non-virtual bases

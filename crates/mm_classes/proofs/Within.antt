@@ -1,14 +1,14 @@
 -- Containment by a test that makes nothing: a longer path, or a virtual base.
-use Rattle.std.proofs.Common.{◌≡◌, ◌≢◌, ℕ, zero, suc, ◌+◌, ◌<◌, ◌≤◌, List, [], ◌∷◌, ◌++◌, length, get_or, map, refl, sym, subst, ap, ap₂, ◌∙◌, inl, inr, arith}
-use Rattle.std.specs.Prelude.{Bool, true, false, cond, ◌⊎◌, nat_eq}
-use Rattle.std.proofs.lemmas.Bool.Decides.{nat_tests, eqb_tells}
+use Rattle.std.proofs.Common.{◌≡◌, ℕ, ◌+◌, ◌<◌, List, [], ◌∷◌, ◌++◌, length, get_or, refl, sym, subst, ap, ◌∙◌, inl, inr, arith}
+use Rattle.std.specs.Prelude.{Bool, true, false, ◌⊎◌}
+use Rattle.std.proofs.lemmas.Bool.Decides.{eqb_tells}
 use Rattle.std.specs.Bool.{Decides}
 use Rattle.mm_classes.specs.declared.answer.Up.{Up}
 use Rattle.mm_classes.specs.declared.answer.Up.TheVariants as up
-use Rattle.mm_classes.specs.Lists.{Has, first, later}
-use Rattle.mm_classes.specs.Classes.{Class, class_at, bases_of, IsClassList}
-use Rattle.mm_classes.specs.Subobjects.{Path, IsChain, IsVirtual, listed, below, IsSubobject, last_of, end_of, compose, walk, virtual_bases, IsWithin}
-use Rattle.mm_classes.specs.Questions.{Picks, one_more, picked}
+use Rattle.mm_classes.specs.Lists.{Has}
+use Rattle.mm_classes.specs.Classes.{Class, IsClassList}
+use Rattle.mm_classes.specs.Subobjects.{Path, IsChain, IsVirtual, IsSubobject, last_of, end_of, compose, walk, virtual_bases, IsWithin}
+use Rattle.mm_classes.specs.Questions.{Picks, picked}
 use Rattle.mm_classes.proofs.Lists.{with_all_new-from, with_all_new-has}
 use Rattle.mm_classes.proofs.Subs.{virtual_falls, walk_is, is_walk, deep}
 use Rattle.mm_classes.proofs.Compose.{compose-on, compose-anew}

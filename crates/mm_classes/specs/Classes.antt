@@ -1,6 +1,5 @@
 -- Class lists. ISO/IEC 14882:1998, 10 (derived classes), 10.1 (multiple base classes), 10.3 (virtual functions).
 use Rattle.std.specs.Prelude.{◌≡◌, ◌≢◌, ℕ, zero, suc, ◌+◌, ◌<◌, ◌≤◌, ◌^◌, Bool, true, false, List, [], ◌∷◌, map, length, get_or, cond, count_by, max, AllPairs, ◌⊎◌}
-use Rattle.mm_classes.specs.declared.class.Ty.{Ty}
 use Rattle.mm_classes.specs.declared.class.Base.{Base}
 use Rattle.mm_classes.specs.declared.class.Member.{Member}
 use Rattle.mm_classes.specs.declared.class.MemberKind.{MemberKind}

@@ -1,10 +1,10 @@
 -- The subobjects of a class, as lists of classes. ISO/IEC 14882:1998, 10.1 (multiple base classes), 10.1/4 (virtual
 -- bases); the lists are those of Rossie and Friedman, "An algebraic semantics of subobjects", 1995.
-use Rattle.std.specs.Prelude.{◌≡◌, ℕ, zero, suc, ◌+◌, ◌<◌, Bool, true, false, List, [], ◌∷◌, ◌++◌, map, length, get_or, nat_eq, ◌⊎◌, cond}
+use Rattle.std.specs.Prelude.{◌≡◌, ℕ, zero, suc, true, false, List, [], ◌∷◌, ◌++◌, map, length, nat_eq, ◌⊎◌, cond}
 use Rattle.std.specs.List.{flat_map}
 use Rattle.mm_classes.specs.declared.class.Base.{Base}
 use Rattle.mm_classes.specs.Lists.{Has, firsts}
-use Rattle.mm_classes.specs.Classes.{Class, class_at, bases_of}
+use Rattle.mm_classes.specs.Classes.{Class, bases_of}
 
 abbrev pub Path : Type 0
 Path = List ℕ

@@ -1,0 +1,7 @@
+//! The graph of all declared classes, with the subobjects of each.
+#![tactic(auto)]
+
+pub mod build;
+pub mod entry;
+pub mod find;
+pub mod graph;
