@@ -9,3 +9,5 @@ pub mod Growing
 pub mod Declaring
 pub mod Laws
 pub mod Examples
+pub mod Cuts
+pub mod Places
