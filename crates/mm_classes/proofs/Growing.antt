@@ -48,7 +48,7 @@ module _ (g : List Class) (ok : IsClassList g) where
   pub virtual_bases-unfold : (c : ℕ) → virtual_bases g c ≡ firsts (flat_map (λ (b : Base). met b ++ virtual_bases g b.class) (bases_of g c))
   virtual_bases-unfold c = ap firsts (walk-step (length g) c (deep g ok c) (omega arith)) ∙ sym (each_once (λ x. walk g (length g) x) (bases_of g c) [])
 
-virtual_bases_complete : (g : List Class) → IsClassList g → (c v : ℕ) → Has (virtual_bases g c) v → (class_at g v).complete ≡ true
+pub virtual_bases_complete : (g : List Class) → IsClassList g → (c v : ℕ) → Has (virtual_bases g c) v → (class_at g v).complete ≡ true
 virtual_bases_complete g ok c v h = elim (with_all_new-from [] (walk g (length g) c) v h) [
   | inl z ↦ elim z [ ]
   | inr k ↦ (virtual_complete g ok c v (walk_is g ok (length g) c v k)).1

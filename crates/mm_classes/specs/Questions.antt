@@ -1,12 +1,13 @@
 -- Subobjects by their numbers, and answers of one, none or several. Own, but for the way up (ISO/IEC 14882:1998, 4.10/3,
 -- 10.2).
-use Rattle.std.specs.Prelude.{◌≡◌, ℕ, ◌<◌, Bool, List, [], length, get_or, cond}
+use Rattle.std.specs.Prelude.{◌≡◌, ℕ, ◌+◌, ◌<◌, take, Bool, List, [], length, get_or, cond}
+use Rattle.std.specs.List.{flat_map}
 use Rattle.mm_classes.specs.declared.answer.Up.{Up}
 use Rattle.mm_classes.specs.declared.answer.Up.TheVariants as up
 use Rattle.mm_classes.specs.declared.answer.Around.{Around}
 use Rattle.mm_classes.specs.declared.answer.Around.TheVariants as around
 use Rattle.mm_classes.specs.Classes.{Class}
-use Rattle.mm_classes.specs.Subobjects.{Path, subobjects_of, end_of, IsWithin}
+use Rattle.mm_classes.specs.Subobjects.{Path, chains, virtual_bases, subobjects_of, end_of, IsWithin}
 
 -- the n-th subobject of d
 abbrev pub node : List Class → ℕ → ℕ → Path
@@ -14,6 +15,10 @@ node g d n = get_or (subobjects_of g d) n []
 
 abbrev pub IsNode : List Class → ℕ → ℕ → Type 0
 IsNode g d n = n < length (subobjects_of g d)
+
+-- the number of the first subobject of d that begins with the j-th virtual base of d
+abbrev pub start_of : List Class → ℕ → ℕ → ℕ
+start_of g d j = length (chains g (length g) d) + length (flat_map (chains g (length g)) (take j (virtual_bases g d)))
 
 -- which of the numbers below a bound have a property: one, none or several
 abbrev pub Picks : Up → (ℕ → Type 0) → ℕ → Type 0

@@ -11,14 +11,15 @@ use Rattle.mm_classes.specs.Classes.{Class, class_at, names_in, unknown, IsClass
 use Rattle.mm_classes.specs.Subobjects.{Path, chains, subobjects_of}
 use Rattle.mm_classes.specs.Adding.{added, new_class, new_virtual_bases, new_chains, new_subobjects, AreKnown}
 use Rattle.mm_classes.proofs.Answering.{complete_below}
-use Rattle.mm_classes.proofs.Growing.{added-valid, as_long, as_before, added-virtual_bases, added-chains, added-subobjects, added-depth, new_polymorphic, polymorphic_new, new_virtual_bases-complete, added-names}
+use Rattle.mm_classes.proofs.Growing.{added-valid, chains-all_kept, as_long, as_before, added-virtual_bases, added-chains, added-subobjects, added-depth, new_polymorphic, polymorphic_new, new_virtual_bases-complete, added-names}
 use Rattle.mm_paths.specs.declared.entry.Entry.{Entry}
 use Rattle.mm_paths.specs.declared.entry.Node.{Node}
 use Rattle.mm_paths.specs.declared.entry.Parts.{Parts}
 use Rattle.mm_paths.specs.Ends.{AreTooMany}
-use Rattle.mm_paths.specs.Stored.{class_in, classes_in, paths_in, ArePartsOf, IsStored, IsKept, AreNewParts}
+use Rattle.mm_paths.specs.Stored.{class_in, classes_in, paths_in, ArePartsOf, IsStored, IsKept, AreNewParts, starts_from, starts_of, new_starts}
 use Rattle.mm_paths.proofs.Stored.{get_or-map}
 use Rattle.mm_paths.proofs.Keeping.{parts_kept}
+use Rattle.mm_paths.proofs.Starts.{starts-same}
 
 pub same_class : (e : Entry) (n : List ℕ) (bs : List Base) (ms : List Member) → e.name ≡ n → e.complete ≡ true → e.parts.bases.items ≡ bs → e.parts.members.items ≡ ms
     → class_in e ≡ record { name = n; complete = true; bases = bs; members = ms }
@@ -27,12 +28,20 @@ same_class e n bs ms a b c d = rw (a, b, c, d) refl
 -- a class that is completed by bases that are complete, each once
 module _ (g : List Class) (ok : IsClassList g) (c : ℕ) (bs : List Base) (ms : List Member) (here : c < length g) (open_yet : (class_at g c).complete ≡ false)
     (known : AreKnown g bs) (once : Distinct (map (λ (b : Base). b.class) bs)) (fit : IsMemberList ms) where
+  new_starts_are : starts_of (added g c bs ms) c ≡ new_starts g c bs
+  new_starts_are =
+      ap₂ (λ (n : ℕ) (vs : List ℕ). starts_from (chains (added g c bs ms) (length (added g c bs ms))) n vs)
+      (ap length (added-chains g ok c bs ms here open_yet known once fit)) (added-virtual_bases g ok c bs ms here open_yet known once fit)
+      ∙ starts-same (chains (added g c bs ms) (length (added g c bs ms))) (chains g (length g)) (length (new_chains g c bs)) (new_virtual_bases g bs)
+      (λ v h. chains-all_kept g (added g c bs ms) ok (as_long g ok c bs ms here open_yet known once fit) (as_before g ok c bs ms here open_yet known once fit) v (new_virtual_bases-complete g ok bs known v h))
+
   pub new_parts : (p : Parts) → AreNewParts g c bs ms p → ArePartsOf (added g c bs ms) c p
   new_parts p a = record {
     nodes = a.nodes ∙ sym (added-subobjects g ok c bs ms here open_yet known once fit);
     few = a.few;
     own = a.own ∙ ap length (sym (added-chains g ok c bs ms here open_yet known once fit));
     shared = a.shared ∙ sym (added-virtual_bases g ok c bs ms here open_yet known once fit);
+    starts = a.starts ∙ sym new_starts_are;
     depth = a.depth ∙ sym (added-depth g ok c bs ms here open_yet known once fit);
     polymorphic = (
       (λ e. new_polymorphic g ok c bs ms here open_yet known once fit (a.polymorphic.0 e)),

@@ -1,17 +1,12 @@
 -- Searches in lists of paths.
-use Rattle.std.proofs.Common.{◌≡◌, ◌≢◌, ℕ, zero, suc, ◌+◌, ◌-◌, ◌<◌, ◌≤◌, List, [], ◌∷◌, ◌++◌, length, get_or, take, drop, refl, sym, ap, ap₂, ◌∙◌, inl, inr, arith, length-append}
-use Rattle.std.specs.Prelude.{Bool, true, false, not, nat_eq, ◌⊎◌}
+use Rattle.std.proofs.Common.{◌≡◌, ◌≢◌, ℕ, zero, suc, ◌-◌, ◌<◌, List, [], ◌∷◌, ◌++◌, length, get_or, take, drop, refl, sym, ap, ap₂, ◌∙◌, inl, inr, arith, length-append}
+use Rattle.std.specs.Prelude.{Bool, true, false, nat_eq, ◌⊎◌}
 use Rattle.std.specs.Cmp.Lexicographic.{same_text, other_text}
 use lib.Pointwise.{pointwise}
-use borrow.Author.Count.{below_more}
-use Rattle.mm_paths.specs.declared.entry.Node.{Node}
-use Rattle.mm_paths.specs.Stored.{paths_in}
-use Rattle.mm_paths.proofs.Stored.{get_or-map}
-use Rattle.std.proofs.lemmas.List.{length-map, take-append-drop, take_at, drop_at, take_rest}
+use Rattle.std.proofs.lemmas.List.{take-append-drop, take_at, drop_at}
 use Rattle.mm_classes.specs.Lists.{Has, has}
 use Rattle.mm_classes.proofs.Lists.{has-true, has-Has}
 use Rattle.mm_classes.specs.Subobjects.{Path, end_of, last_of}
-use Rattle.mm_paths.specs.Places.{IsPlaceOf}
 
 end_is : (c : ℕ) (p : Path) (n d : ℕ) → n ≡ length p → get_or (c ∷ p) n d ≡ last_of c p
 end_is c [] n d e = rw e refl
@@ -36,37 +31,6 @@ texts xs ys = elim (pointwise nat_eq xs ys) as (λ b. pointwise nat_eq xs ys ≡
   | true ↦ λ e. inl (refl, same_text xs ys (sym e))
   | false ↦ λ e. inr (refl, other_text xs ys (sym e))
 ] refl
-
-pub head_differs : (p front rest : Path) → true ≡ not (pointwise nat_eq (take (length front) p) front) → (false ≡ true → p ≡ front ++ rest) × (p ≡ front ++ rest → false ≡ true)
-head_differs p front rest h = (
-  (λ e. cc),
-  λ e. elim (texts (take (length front) p) front) [
-    | inl y ↦ (let z : true ≡ false = h ∙ ap not y.0 in cc)
-    | inr n ↦ absurd (n.1 (joined_take p front rest e))
-  ],
-)
-
-pub tail_decides : (p front rest : Path) (r : Bool) → length front ≤ length p → false ≡ not (pointwise nat_eq (take (length front) p) front)
-    → r ≡ pointwise nat_eq (take (length p - length front) (drop (length front) p)) rest → (r ≡ true → p ≡ front ++ rest) × (p ≡ front ++ rest → r ≡ true)
-tail_decides p front rest r le h e =
-    let whole = take_rest p (length front) in
-    let head : take (length front) p ≡ front = elim (texts (take (length front) p) front) as (λ _. take (length front) p ≡ front) [ inl y ↦ y.1 | inr n ↦ (let z : false ≡ true = h ∙ ap not n.0 in cc) ] in
-    elim (texts (take (length p - length front) (drop (length front) p)) rest) [
-      | inl y ↦ ((λ t. joined_from p front rest head (sym whole ∙ y.1)), λ j. e ∙ y.0)
-      | inr n ↦ ((λ t. let z : true ≡ false = sym t ∙ (e ∙ n.0) in cc), λ j. absurd (n.1 (whole ∙ joined_drop p front rest j)))
-    ]
-
--- one more place is another path
-pub passed_over : (ns : List Node) (p q : Path) (n : ℕ) (x : Node) → n < length ns → x ≡ get_or ns n x → q ≡ (get_or ns n x).path.items → (q ≡ p → false ≡ true)
-    → ((k : ℕ) → k < n → get_or (paths_in ns) k [] ≢ p) → (k : ℕ) → k < n + 1 → get_or (paths_in ns) k [] ≢ p
-passed_over ns p q n x l e f other h = below_more (λ k. get_or (paths_in ns) k [] ≢ p) n h (λ z.
-    let m = get_or-map (λ (x : Node). x.path.items) ns n x [] l in let b : false ≡ true = other (f ∙ (sym m ∙ z)) in cc)
-
-pub here_it_is : (ns : List Node) (p q : Path) (n : ℕ) (x : Node) → n < length ns → q ≡ (get_or ns n x).path.items → q ≡ p
-    → ((k : ℕ) → k < n → get_or (paths_in ns) k [] ≢ p) → IsPlaceOf n (paths_in ns) p
-here_it_is ns p q n x l f same h =
-    let len = length-map ns (λ (x : Node). x.path.items) in
-    (omega arith, h, λ k. get_or-map (λ (x : Node). x.path.items) ns n x [] l ∙ (sym f ∙ same))
 
 pub start_none : (p front : Path) → length p < length front → (false ≡ true → (u : List ℕ) × (p ≡ front ++ u)) × ((u : List ℕ) × (p ≡ front ++ u) → false ≡ true)
 start_none p front l = ((λ e. cc), λ u. let a = ap length u.1 in let b = length-append front u.0 in absurd (omega arith))

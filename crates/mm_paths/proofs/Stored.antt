@@ -62,6 +62,15 @@ own_below es c x ex s k =
       length-append (chains (classes_in es) (length (classes_in es)) c) (flat_map (chains (classes_in es) (length (classes_in es))) (virtual_bases (classes_in es) c)),
     )
 
+-- a complete class has at most 256 subobjects
+pub few_at : (es : List Entry) (g : List Class) (c : ℕ) → IsStored es → classes_in es ≡ g → IsComplete g c → length (subobjects_of g c) ≤ 256
+few_at [] g c s e k = (let l = entry_below [] g c e k in absurd (omega arith))
+few_at (x ∷ es) g c s e k =
+    let p = s.each c x (entry_below (x ∷ es) g c e k) (entry_complete (x ∷ es) g c x e k) in
+    let f = p.few in
+    let n = ap length (p.nodes ∙ ap (λ (z : List Class). subobjects_of z c) e) in
+    omega (arith, f, n, length-map (get_or (x ∷ es) c x).parts.nodes.items (λ (y : Node). y.path.items))
+
 pub members_at : (es : List Entry) (g : List Class) (c : ℕ) (x : Entry) → x ≡ get_or es c x → classes_in es ≡ g → c < length g → x.parts.members.items ≡ members_of g c
 members_at es g c x ex e l =
     let k : c < length es = (let z = ap length e in let m = length-map es class_in in omega arith) in

@@ -11,9 +11,10 @@ ghost use Rattle.mm_classes.specs.Subobjects.{Path, met, chains, virtual_bases};
 ghost use Rattle.mm_classes.specs.Adding.{new_virtual_bases, new_chains, new_subobjects, new_depth, IsNewPolymorphic, AreKnown, fresh};
 ghost use Rattle.mm_paths.specs.declared.entry.Entry.{Entry};
 ghost use Rattle.mm_paths.specs.Ends.{plain_block, classes_of, AreFine, Stops, AreDeclared};
-ghost use Rattle.mm_paths.specs.Stored.{paths_in, class_in, classes_in, IsStored, AreNewParts};
+ghost use Rattle.mm_paths.specs.Stored.{paths_in, class_in, classes_in, IsStored, AreNewParts, starts_from, new_starts, IsStart};
 
-use crate::entry::{Entry, GraphEnd, MakeEnd, Node, Parts};
+use crate::entry::{Entry, GraphEnd, MakeEnd, Node, Nodes, Parts};
+use crate::find::start_among;
 use indexmap::IndexSet;
 use mm_base::text::Text;
 use mm_classes::class::{Base, Member};
@@ -66,6 +67,26 @@ pub fn own_of(entries: &[Entry], c: ClassId) -> &[Node]
 {
     let parts = &entry_at(entries, c).parts;
     &parts.nodes[..parts.own]
+}
+
+/// How many nodes of a class begin with it.
+pub fn own_count(entries: &[Entry], c: ClassId) -> usize
+    requires stored { IsStored entries.now }
+    requires complete { IsComplete (classes_in entries.now) c }
+    ensures { result ≡ length (chains (classes_in entries.now) (length (classes_in entries.now)) c) }
+{
+    entry_at(entries, c).parts.own
+}
+
+/// The number of the first node of a class that begins with one of its virtual bases.
+pub fn start_in(entries: &[Entry], c: ClassId, v: ClassId) -> usize
+    requires stored { IsStored entries.now }
+    requires complete { IsComplete (classes_in entries.now) c }
+    requires has { Has (virtual_bases (classes_in entries.now) c) v }
+    ensures { IsStart (classes_in entries.now) c v result }
+{
+    let parts = &entry_at(entries, c).parts;
+    start_among(parts.shared.as_slice(), parts.starts.as_slice(), v)
 }
 
 /// Puts a number at the end, where it is not there yet.
@@ -204,28 +225,33 @@ pub fn new_own(
     Ok(nodes)
 }
 
-/// Appends the nodes of virtual bases.
+/// Appends the nodes of virtual bases, and says where those of each begin.
 pub fn push_shared(
     alloc: Global,
     nodes: &mut Vec<Node>,
     entries: &[Entry],
     shared: &[ClassId],
-) -> Result<(), MakeEnd>
+) -> Result<Vec<usize>, MakeEnd>
     requires stored { IsStored entries.now }
     requires complete { (v : ℕ) → Has shared.now v → IsComplete (classes_in entries.now) v }
     requires few { length nodes.old.items ≤ 256 }
     ensures ok { OnOk result (paths_in nodes.new.items ≡ paths_in nodes.old.items ++ flat_map (chains (classes_in entries.now) (length (classes_in entries.now))) shared.now) }
     ensures few { length nodes.new.items ≤ 256 }
+    ensures starts { IfOk result (λ s. s.items ≡ starts_from (chains (classes_in entries.now) (length (classes_in entries.now))) (length nodes.old.items) shared.now) }
     ensures many { IfErr result (λ end. end ≡ MakeEnd.Many → 256 < length nodes.old.items + length (flat_map (chains (classes_in entries.now) (length (classes_in entries.now))) shared.now)) }
 {
+    let mut starts = Vec::new(alloc);
     let mut n = 0;
     while n < shared.len() {
+        let Ok(()) = starts.push(nodes.len()) else {
+            return Err(MakeEnd::NoMemory);
+        };
         if let Err(end) = push_block(alloc, nodes, &[], own_of(entries, shared[n])) {
             return Err(end);
         }
         n += 1;
     }
-    Ok(())
+    Ok(starts)
 }
 
 /// The depth of a class with these bases.
@@ -274,31 +300,32 @@ pub fn is_new_polymorphic(entries: &[Entry], bases: &[Base], members: &[Member])
     any_polymorphic(entries, bases)
 }
 
-/// The nodes of a new class, and how many begin with it.
+/// The nodes of a new class.
 pub fn new_nodes(
     alloc: Global,
     entries: &[Entry],
     class: ClassId,
     bases: &[Base],
     shared: &[ClassId],
-) -> Result<(Vec<Node>, usize), MakeEnd>
+) -> Result<Nodes, MakeEnd>
     requires stored { IsStored entries.now }
     requires known { AreKnown (classes_in entries.now) bases.now }
     requires shared { shared.now ≡ new_virtual_bases (classes_in entries.now) bases.now }
-    ensures nodes { IfOk result (λ r. paths_in r.0.items ≡ new_subobjects (classes_in entries.now) class bases.now) }
-    ensures few { IfOk result (λ r. length r.0.items ≤ 256) }
-    ensures own { IfOk result (λ r. r.1 ≡ length (new_chains (classes_in entries.now) class bases.now)) }
+    ensures nodes { IfOk result (λ r. paths_in r.all.items ≡ new_subobjects (classes_in entries.now) class bases.now) }
+    ensures few { IfOk result (λ r. length r.all.items ≤ 256) }
+    ensures own { IfOk result (λ r. r.own ≡ length (new_chains (classes_in entries.now) class bases.now)) }
+    ensures starts { IfOk result (λ r. r.starts.items ≡ new_starts (classes_in entries.now) class bases.now) }
     ensures many { IfErr result (λ end. end ≡ MakeEnd.Many → 256 < length (new_subobjects (classes_in entries.now) class bases.now)) }
 {
-    let mut nodes = match new_own(alloc, entries, class, bases) {
+    let mut all = match new_own(alloc, entries, class, bases) {
         Ok(nodes) => nodes,
         Err(end) => return Err(end),
     };
-    let own = nodes.len();
-    if let Err(end) = push_shared(alloc, &mut nodes, entries, shared) {
-        return Err(end);
+    let own = all.len();
+    match push_shared(alloc, &mut all, entries, shared) {
+        Ok(starts) => Ok(Nodes { all, own, starts }),
+        Err(end) => Err(end),
     }
-    Ok((nodes, own))
 }
 
 /// Makes the parts of a new class.
@@ -320,8 +347,8 @@ pub fn make(
     let Ok(shared) = new_shared(alloc, entries, bases) else {
         return Err(MakeEnd::NoMemory);
     };
-    let (nodes, own) = match new_nodes(alloc, entries, class, bases, shared.as_slice()) {
-        Ok(made) => made,
+    let nodes = match new_nodes(alloc, entries, class, bases, shared.as_slice()) {
+        Ok(nodes) => nodes,
         Err(end) => return Err(end),
     };
     let depth = new_depth_of(entries, bases);
@@ -335,9 +362,10 @@ pub fn make(
     Ok(Parts {
         bases,
         members,
-        nodes,
-        own,
+        nodes: nodes.all,
+        own: nodes.own,
         shared,
+        starts: nodes.starts,
         depth,
         polymorphic,
     })
@@ -391,6 +419,7 @@ pub fn new_entry(alloc: Global, name: &str) -> Result<Entry, AllocError>
             nodes: Vec::new(alloc),
             own: 0,
             shared: Vec::new(alloc),
+            starts: Vec::new(alloc),
             depth: 0,
             polymorphic: false,
         },

@@ -22,9 +22,19 @@ pub struct Parts {
     pub own: usize,
     /// The virtual bases, in order.
     pub shared: Vec<ClassId>,
+    /// For each virtual base the number of the first node that begins with it.
+    pub starts: Vec<usize>,
     /// The number of links in the longest chain of bases.
     pub depth: usize,
     pub polymorphic: bool,
+}
+
+/// The nodes of a class, with the numbers at which they begin with another class.
+#[derive(Drop)]
+pub struct Nodes {
+    pub all: Vec<Node>,
+    pub own: usize,
+    pub starts: Vec<usize>,
 }
 
 /// A declared class.

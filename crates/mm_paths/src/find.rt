@@ -3,12 +3,9 @@
 ghost use Rattle.std.specs.Prelude.{◌≡◌, ◌≢◌, ◌<◌, ◌≤◌, ◌+◌, ◌^◌, ℕ, List, [], ◌∷◌, ◌++◌, ◌⊎◌, length, get_or, Bool, true, false};
 ghost use Rattle.std.specs.Bool.{Decides};
 ghost use Rattle.mm_classes.specs.Lists.{Has};
-ghost use Rattle.mm_classes.specs.Subobjects.{end_of, compose};
+ghost use Rattle.mm_classes.specs.Subobjects.{end_of};
 ghost use Rattle.mm_classes.specs.Questions.{picked, as_up};
-ghost use Rattle.mm_paths.specs.Places.{IsPlaceOf};
-ghost use Rattle.mm_paths.specs.Stored.{paths_in};
 
-use crate::entry::Node;
 use mm_classes::answer::{Around, Up};
 use mm_classes::id::{ClassId, NodeId};
 
@@ -20,33 +17,17 @@ pub fn path_end(path: &[ClassId]) -> ClassId
     path[path.len() - 1]
 }
 
-/// Whether a path is `front` followed by `rest`.
-pub fn is_joined(path: &[ClassId], front: &[ClassId], rest: &[ClassId]) -> bool
-    ensures { Decides result (path.now ≡ front.now ++ rest.now) }
+/// The start beside the first place of a class.
+pub fn start_among(shared: &[ClassId], starts: &[usize], v: ClassId) -> usize
+    requires has { Has shared.now v }
+    requires long { length starts.now ≡ length shared.now }
+    ensures { (j : ℕ) × (j < length shared.now) × (get_or shared.now j 0 ≡ v) × (result ≡ get_or starts.now j 0) }
 {
-    if path.len() < front.len() {
-        return false;
+    let mut j = 0;
+    while shared[j] != v {
+        j += 1;
     }
-    let head = &path[..front.len()];
-    let tail = &path[front.len()..];
-    if head != front {
-        return false;
-    }
-    tail == rest
-}
-
-/// The place of the node whose path is `front` followed by `rest`, or the number of nodes.
-pub fn place_of(nodes: &[Node], front: &[ClassId], rest: &[ClassId]) -> usize
-    ensures { IsPlaceOf result (paths_in nodes.now) (front.now ++ rest.now) }
-{
-    let mut n = 0;
-    while n < nodes.len() {
-        if is_joined(nodes[n].path.as_slice(), front, rest) {
-            return n;
-        }
-        n += 1;
-    }
-    n
+    starts[j]
 }
 
 /// A place as a number of a node.
@@ -56,22 +37,6 @@ pub fn node_id(place: usize) -> NodeId
 {
     NodeId {
         number: place as u32,
-    }
-}
-
-/// The place of the node that `rest` is, seen from `front`.
-pub fn place_of_composed(nodes: &[Node], front: &[ClassId], rest: &[ClassId]) -> NodeId
-    requires front { 0 < length front.now }
-    requires rest { 0 < length rest.now }
-    requires few { length nodes.now ≤ 256 }
-    requires stands { Has (paths_in nodes.now) (compose front.now rest.now) }
-    ensures { (result < length nodes.now) × (get_or (paths_in nodes.now) result [] ≡ compose front.now rest.now) }
-{
-    let end = path_end(front);
-    if rest[0] == end {
-        node_id(place_of(nodes, front, &rest[1..]))
-    } else {
-        node_id(place_of(nodes, &[], rest))
     }
 }
 

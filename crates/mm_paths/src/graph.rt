@@ -10,9 +10,9 @@ ghost use Rattle.mm_classes.specs.Laws.{AreNodes, Composes, Deepens};
 ghost use Rattle.mm_classes.specs.Adding.{added, AreKnown, IsNamed, declared};
 ghost use Rattle.mm_paths.specs.Ends.{AreDeclared, AreFine, AreTooMany, Ends, classes_of};
 
-use crate::build::{entry_at, look, make, push_named, shared_of};
+use crate::build::{look, make, own_count, push_named, shared_of, start_in};
 use crate::entry::{Entry, GraphEnd, MakeEnd};
-use crate::find::{as_around, goes_from, path_end, pick, place_of_composed};
+use crate::find::{as_around, goes_from, node_id, path_end, pick};
 use indexmap::IndexSet;
 use mm_classes::answer::{Around, Up};
 use mm_classes::class::{Base, Member};
@@ -152,13 +152,17 @@ impl Graph {
         ensures node { IsNode self.now d result }
         ensures path { node self.now d result ≡ composed (node self.now d n) (node self.now (end_of (node self.now d n)) m) }
     {
-        let front = self.path(d, n);
-        let rest = self.path(path_end(front), m);
-        place_of_composed(
-            entry_at(self.entries.as_slice(), d).parts.nodes.as_slice(),
-            front,
-            rest,
-        )
+        let entries = self.entries.as_slice();
+        let part = self.class_of(d, n);
+        if (m.number as usize) < own_count(entries, part) {
+            return NodeId {
+                number: n.number + m.number,
+            };
+        }
+        let head = self.path(part, m)[0];
+        let from = start_in(entries, part, head);
+        let to = start_in(entries, d, head);
+        node_id(to + (m.number as usize - from))
     }
 
     /// Whether the subobject `t` contains `s`.

@@ -12,15 +12,15 @@ pub returns-in-Err-clause-many : goal.returns-in-Err-clause-many
 returns-in-Err-clause-many c = λ h. insert_many c.self.inside.names.keys c.self.inside.entries.items c.args.self.now c.self.invariant c.self.view_is c.args.class c.args.bases.now c.args.members.now
     c.requires.here c.requires.open c.requires.known c.requires.once c.requires.members c.as_slice.result.now c.as_slice.ensures.value (c.in-Err.ensures.many h)
 
-entry : (c : goal.After-drop-entry-4) → Entry
+entry : (c : goal.After-drop-entry-5) → Entry
 entry c = record { name = c.index_mut-entry.result.now.name; complete = true; parts = c.in-Ok.made }
 
-IsInserted : (c : goal.After-drop-entry-4) → ℕ → Type 0
+IsInserted : (c : goal.After-drop-entry-5) → ℕ → Type 0
 IsInserted c i = IsKept c.self.inside.names.keys (set c.self.inside.entries.items i (entry c))
     × (classes_in (set c.self.inside.entries.items i (entry c)) ≡ added c.args.self.now c.args.class c.args.bases.now c.args.members.now)
     × (length (subobjects_of (added c.args.self.now c.args.class c.args.bases.now c.args.members.now) c.args.class) ≤ 256)
 
-facts : (c : goal.After-drop-entry-4) → IsInserted c c.class.inside.number
+facts : (c : goal.After-drop-entry-5) → IsInserted c c.class.inside.number
 unfolding entry IsInserted
 facts c = subst (IsInserted c) (sym c.class.view_is) (inserted c.self.inside.names.keys c.self.inside.entries.items c.args.self.now c.self.invariant c.self.view_is c.args.class c.args.bases.now c.args.members.now
     c.requires.here c.requires.open c.requires.known c.requires.once c.requires.members c.as_slice.result.now c.as_slice.ensures.value
