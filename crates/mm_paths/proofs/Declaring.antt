@@ -138,3 +138,7 @@ declared_kept ks ls es fs g n c kept v few f names h ce =
       },
       view ∙ (ap (λ (z : List Class). z ++ fresh n ∷ []) v ∙ declared_new c g n ce),
     )
+
+-- the number that is given has the name
+pub named_here : (c : ℕ) (g : List Class) (n : List ℕ) → IsNamed c g n → c < length g → (c < length g) × (name_of g c ≡ n)
+named_here c g n h l = (l, h.2 l)

@@ -88,3 +88,14 @@ ends_from g c bs ms (end.Twice i) h = h
 ends_from g c bs ms (end.Unknown i) h = h
 ends_from g c bs ms end.Many h = absurd h
 ends_from g c bs ms end.NoMemory h = absurd h
+
+-- bases whose classes are declared, one by one
+pub declared_more : (g : List Class) (bs : List Base) (i : ℕ) (x : Base) → x ≡ get_or bs i x → i < length bs → AreDeclared g (take i bs) → x.class < length g → AreDeclared g (take (i + 1) bs)
+declared_more g bs i x ex l h k b m =
+    elim (Has-append (take i bs) (x ∷ []) (subst (λ (z : List Base). Has z b) (take_more bs i x l ∙ ap (λ z. take i bs ++ z ∷ []) (sym ex)) m)) [
+      | inl a ↦ h b a
+      | inr r ↦ elim r [ first e ↦ subst (λ (z : Base). z.class < length g) e k | later w ↦ elim w [ ] ]
+    ]
+
+pub all_declared : (g : List Class) (bs : List Base) (i : ℕ) → length bs ≤ i → AreDeclared g (take i bs) → AreDeclared g bs
+all_declared g bs i l h b m = h b (subst (λ (z : List Base). Has z b) (sym (take_all i bs l)) m)

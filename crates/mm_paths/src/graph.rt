@@ -89,6 +89,7 @@ impl Graph {
         requires { c < length self.now }
         ensures members { result.now ≡ members_of self.now c }
         ensures apart { IsMemberList result.now }
+        ensures fields { IsComplete self.now c → field_count result.now ≤ 2 ^ 19 }
     {
         self.entries[c.number as usize].parts.members.as_slice()
     }
@@ -301,6 +302,7 @@ impl Graph {
     pub fn declare(&mut self, alloc: Global, name: &str) -> Result<ClassId, AllocError>
         requires { length self.old < 2 ^ 32 - 1 }
         ensures named { IfOk result (λ c. IsNamed c self.old name.now) }
+        ensures here { OnOk result (IfOk result (λ c. (c < length self.new) × (name_of self.new c ≡ name.now))) }
         ensures ok { OnOk result (IfOk result (λ c. self.new ≡ declared c self.old name.now)) }
         ensures err { OnErr result (self.new ≡ self.old) }
     {

@@ -5,3 +5,5 @@ pub mod build;
 pub mod entry;
 pub mod find;
 pub mod graph;
+#[cfg(test)]
+mod tests;

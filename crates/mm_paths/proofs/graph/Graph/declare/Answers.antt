@@ -2,7 +2,7 @@ use Rattle.std.proofs.Common.{length, ap, sym, ◌∙◌, arith}
 use Rattle.std.proofs.lemmas.List.{length-map}
 use Rattle.std.specs.Prelude.{is_some}
 use Rattle.mm_paths.specs.Stored.{class_in}
-use Rattle.mm_paths.proofs.Declaring.{found_name, none_named, declared_kept}
+use Rattle.mm_paths.proofs.Declaring.{found_name, named_here, none_named, declared_kept}
 use Rattle.mm_paths.proofs.graph.Graph.declare.Goals as goal
 
 pub returns-in-Some-clause-named : goal.returns-in-Some-clause-named
@@ -17,3 +17,9 @@ pub returns-clause-named : goal.returns-clause-named
 returns-clause-named c = none_named c.self.inside.names.keys c.self.inside.entries.items c.self.invariant c.args.self.now c.self.view_is c.args.name.now c.len-number.result
     (sym c.get_index_of.ensures.found ∙ ap is_some c.in_default.is)
     (let l = length-map c.self.inside.entries.items class_in in let m = ap length c.self.view_is in omega arith)
+
+pub returns-in-Some-clause-here : goal.returns-in-Some-clause-here
+returns-in-Some-clause-here c =
+    let r = found_name c.self.inside.names.keys c.self.inside.entries.items c.self.invariant c.args.self.now c.self.view_is c.args.name.now c.in-Some.number
+    (sym c.get_index_of.ensures.index ∙ c.in-Some.is) in
+    named_here c.in-Some.number c.args.self.now c.args.name.now r.0 r.1
