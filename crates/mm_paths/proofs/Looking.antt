@@ -89,6 +89,9 @@ ends_from g c bs ms (end.Unknown i) h = h
 ends_from g c bs ms end.Many h = absurd h
 ends_from g c bs ms end.NoMemory h = absurd h
 
+pub declared_at : (g : List Class) (bs : List Base) (i : ℕ) (x : Base) → x ≡ get_or bs i x → i < length bs → AreDeclared g bs → x.class < length g
+declared_at g bs i x ex l d = subst (λ (z : Base). z.class < length g) (sym ex) (d (get_or bs i x) (Has-get_or bs i x l))
+
 -- bases whose classes are declared, one by one
 pub declared_more : (g : List Class) (bs : List Base) (i : ℕ) (x : Base) → x ≡ get_or bs i x → i < length bs → AreDeclared g (take i bs) → x.class < length g → AreDeclared g (take (i + 1) bs)
 declared_more g bs i x ex l h k b m =

@@ -60,6 +60,28 @@ impl Graph {
         self.entries.len() as u32
     }
 
+    /// Whether a class has this number.
+    pub fn is_declared(&self, c: ClassId) -> bool
+        ensures { Decides result (c < length self.now) }
+    {
+        c.number < self.classes()
+    }
+
+    /// Whether all bases are of declared classes.
+    pub fn are_declared(&self, bases: &[Base]) -> bool
+        ensures { Decides result (AreDeclared self.now bases.now) }
+    {
+        let mut n = 0;
+        while n < bases.len() {
+            let base = bases[n];
+            if !self.is_declared(base.class) {
+                return false;
+            }
+            n += 1;
+        }
+        true
+    }
+
     /// Whether the class has been added.
     pub fn is_complete(&self, c: ClassId) -> bool
         requires { c < length self.now }

@@ -1,35 +1,13 @@
 // That classes can be added, and what the diamonds and a chain have.
 
-ghost use Rattle.std.specs.Prelude.{◌<◌, length, IsTrue, IfOk, OnOk};
+ghost use Rattle.std.specs.Prelude.{IsTrue};
 ghost use Rattle.mm_classes.specs.Classes.{IsComplete};
-ghost use Rattle.mm_paths.specs.Ends.{AreDeclared};
 
 use crate::entry::GraphEnd;
 use crate::graph::Graph;
 use mm_classes::class::{Access, Base};
 use mm_classes::id::{ClassId, NodeId};
 use std::alloc::Global;
-
-fn is_declared(graph: &Graph, c: ClassId) -> bool
-    ensures { IsTrue result → c < length graph.now }
-{
-    c.number < graph.classes()
-}
-
-// Whether the classes of the bases are declared.
-fn are_declared(graph: &Graph, bases: &[Base]) -> bool
-    ensures { IsTrue result → AreDeclared graph.now bases.now }
-{
-    let mut n = 0;
-    while n < bases.len() {
-        let base = bases[n];
-        if !is_declared(graph, base.class) {
-            return false;
-        }
-        n += 1;
-    }
-    true
-}
 
 // Declares a class and completes it, with no members; a class that is complete already is said to be unknown.
 fn add(graph: &mut Graph, alloc: Global, name: &str, bases: &[Base]) -> Result<ClassId, GraphEnd> {
@@ -39,7 +17,7 @@ fn add(graph: &mut Graph, alloc: Global, name: &str, bases: &[Base]) -> Result<C
     let Ok(class) = graph.declare(alloc, name) else {
         return Err(GraphEnd::NoMemory);
     };
-    if graph.is_complete(class) || !are_declared(graph, bases) {
+    if graph.is_complete(class) || !graph.are_declared(bases) {
         return Err(GraphEnd::Unknown(0));
     }
     match graph.add(alloc, class, bases, &[]) {
@@ -59,7 +37,7 @@ fn base(class: ClassId, shared: bool) -> Base {
 fn is_known(graph: &Graph, c: ClassId) -> bool
     ensures { IsTrue result → IsComplete graph.now c }
 {
-    c.number < graph.classes() && graph.is_complete(c)
+    graph.is_declared(c) && graph.is_complete(c)
 }
 
 // The last class of a diamond, whose top is a virtual base or not.
