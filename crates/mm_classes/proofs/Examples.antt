@@ -33,6 +33,13 @@ mixed = as_class (to 1 false ∷ to 2 false ∷ to 3 true ∷ []) ∷ as_class (
 pub mixed_is : subobjects_of mixed 0 ≡ (0 ∷ []) ∷ (0 ∷ 1 ∷ []) ∷ (0 ∷ 2 ∷ []) ∷ (0 ∷ 2 ∷ 3 ∷ []) ∷ (3 ∷ []) ∷ (4 ∷ []) ∷ []
 mixed_is = refl
 
+-- A; B : virtual A; C : A, virtual B; E : B, C: A is a base twice, and so is B
+abbrev three_levels : List Class
+three_levels = as_class [] ∷ as_class (to 0 true ∷ []) ∷ as_class (to 0 false ∷ to 1 true ∷ []) ∷ as_class (to 1 false ∷ to 2 false ∷ []) ∷ []
+
+pub three_levels_is : subobjects_of three_levels 3 ≡ (3 ∷ []) ∷ (3 ∷ 1 ∷ []) ∷ (3 ∷ 2 ∷ []) ∷ (3 ∷ 2 ∷ 0 ∷ []) ∷ (0 ∷ []) ∷ (1 ∷ []) ∷ []
+three_levels_is = refl
+
 -- composition starts anew at a virtual base
 pub restarts : compose (0 ∷ 2 ∷ 3 ∷ []) (4 ∷ []) ≡ 4 ∷ []
 restarts = refl

@@ -31,16 +31,20 @@ declared n g name = cond (nat_lt n (length g)) g (g ++ fresh name ∷ [])
 abbrev pub AreKnown : List Class → List Base → Type 0
 AreKnown g bs = (b : Base) → Has bs b → (class_at g b.class).complete ≡ true
 
--- what a new class has, by what its bases have
+-- WHAT A NEW CLASS HAS, BY WHAT ITS BASES HAVE
+-- its virtual bases
 abbrev pub new_virtual_bases : List Class → List Base → List ℕ
 new_virtual_bases g bs = firsts (flat_map (λ (b : Base). met b ++ virtual_bases g b.class) bs)
 
+-- the subobjects that begin with it
 abbrev pub new_chains : List Class → ℕ → List Base → List Path
 new_chains g c bs = (c ∷ []) ∷ flat_map (λ b. map (λ p. c ∷ p) (chains g (length g) b)) (plain_bases bs)
 
+-- all of its subobjects
 abbrev pub new_subobjects : List Class → ℕ → List Base → List Path
 new_subobjects g c bs = new_chains g c bs ++ flat_map (chains g (length g)) (new_virtual_bases g bs)
 
+-- its depth
 abbrev pub new_depth : List Class → List Base → ℕ
 new_depth g bs = most (map (λ (b : Base). depth_of g b.class + 1) bs)
 

@@ -1,4 +1,5 @@
--- Class lists. ISO/IEC 14882:1998, 10 (derived classes), 10.1 (multiple base classes), 10.3 (virtual functions).
+-- Class lists. ISO/IEC 14882:1998, 10 (derived classes), 10.1 (multiple base classes), 10.3 (virtual functions). Own where no
+-- section stands.
 use Rattle.std.specs.Prelude.{◌≡◌, ◌≢◌, ℕ, zero, suc, ◌+◌, ◌<◌, ◌≤◌, ◌^◌, Bool, true, false, List, [], ◌∷◌, map, length, get_or, cond, count_by, max, AllPairs, ◌⊎◌}
 use Rattle.mm_classes.specs.declared.class.Base.{Base}
 use Rattle.mm_classes.specs.declared.class.Member.{Member}
@@ -6,32 +7,38 @@ use Rattle.mm_classes.specs.declared.class.MemberKind.{MemberKind}
 use Rattle.mm_classes.specs.declared.class.MemberKind.TheVariants as kind
 use Rattle.mm_classes.specs.Lists.{Has, Distinct}
 
--- A class: its name, whether its definition has been seen, and the direct bases and the members of that definition. Own.
+-- A class: its name, whether its definition has been seen, and the direct bases (10) and the members (9.2) of that definition.
 pub record Class : Type 0 where
   pub name : List ℕ
   pub complete : Bool
   pub bases : List Base
   pub members : List Member
 
--- The classes by their numbers: the number of a class is its place. Own.
+-- The classes by their numbers: the number of a class is its place.
 abbrev pub ClassList : Type 0
 ClassList = List Class
 
+-- what stands at a number that no class has
 abbrev pub unknown : Class
 unknown = record { name = []; complete = false; bases = []; members = [] }
 
+-- the class of a number
 abbrev pub class_at : List Class → ℕ → Class
 class_at g c = get_or g c unknown
 
+-- its direct bases, from left to right (10)
 abbrev pub bases_of : List Class → ℕ → List Base
 bases_of g c = (class_at g c).bases
 
+-- the members that it declares, in their order (9.2)
 abbrev pub members_of : List Class → ℕ → List Member
 members_of g c = (class_at g c).members
 
+-- its name
 abbrev pub name_of : List Class → ℕ → List ℕ
 name_of g c = (class_at g c).name
 
+-- the names of all classes
 abbrev pub names_in : List Class → List (List ℕ)
 names_in g = map (λ (c : Class). c.name) g
 
@@ -51,6 +58,7 @@ AreOverloads (kind.Function ps r v) (kind.Field t) = ⊥
 AreOverloads (kind.Field t) (kind.Function qs s w) = ⊥
 AreOverloads (kind.Field t) (kind.Field u) = ⊥
 
+-- members of one name are overloads
 abbrev pub AreApart : Member → Member → Type 0
 AreApart m x = m.name ≡ x.name → AreOverloads m.kind x.kind
 
@@ -105,14 +113,17 @@ HasVirtual ms = (m : Member) × Has ms m × (is_virtual m ≡ true)
 abbrev pub IsPolymorphic : List Class → ℕ → Type 0
 IsPolymorphic g c = (b : ℕ) × ((c ≡ b) ⊎ Derives g c b) × HasVirtual (members_of g b)
 
--- The number of links in the longest chain of direct bases that begins at c; n bounds it. Own.
+-- the greatest of some numbers
 abbrev pub most : List ℕ → ℕ
 most [] = 0
 most (n ∷ ns) = max n (most ns)
 
+-- the number of links in the longest chain of direct bases that begins at c, of n links at most
 abbrev pub depth_within : List Class → ℕ → ℕ → ℕ
 depth_within g zero c = 0
 depth_within g (suc n) c = most (map (λ (b : Base). depth_within g n b.class + 1) (bases_of g c))
 
+-- The depth of a class: the number of links in the longest chain of direct bases that begins at it. No chain has more
+-- links than there are classes.
 abbrev pub depth_of : List Class → ℕ → ℕ
 depth_of g c = depth_within g (length g) c

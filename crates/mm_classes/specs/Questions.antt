@@ -13,6 +13,7 @@ use Rattle.mm_classes.specs.Subobjects.{Path, chains, virtual_bases, subobjects_
 abbrev pub node : List Class → ℕ → ℕ → Path
 node g d n = get_or (subobjects_of g d) n []
 
+-- n is the number of a subobject of d
 abbrev pub IsNode : List Class → ℕ → ℕ → Type 0
 IsNode g d n = n < length (subobjects_of g d)
 
@@ -30,15 +31,17 @@ Picks up.Several P bound = (m k : ℕ) × (m < k) × (k < bound) × P m × P k
 abbrev pub IsUpOf : Up → List Class → ℕ → ℕ → Type 0
 IsUpOf answer g c b = Picks answer (λ n. end_of (node g c n) ≡ b) (length (subobjects_of g c))
 
+-- the same answer in the other type
 abbrev pub as_up : Around → Up
 as_up (around.One n) = up.One n
 as_up around.None = up.None
 as_up around.Several = up.Several
 
--- the subobject of d that is of class t and contains the n-th, where there is exactly one; else none or several
+-- the x-th subobject of d is of class t and contains the n-th
 abbrev pub Surrounds : List Class → ℕ → ℕ → ℕ → ℕ → Type 0
 Surrounds g d n t x = (end_of (node g d x) ≡ t) × IsWithin g (node g d n) (node g d x)
 
+-- the subobject of d that is of class t and contains the n-th, where there is exactly one; else none or several
 abbrev pub IsAroundOf : Around → List Class → ℕ → ℕ → ℕ → Type 0
 IsAroundOf answer g d n t = Picks (as_up answer) (Surrounds g d n t) (length (subobjects_of g d))
 
@@ -48,5 +51,6 @@ one_more up.None n = up.One n
 one_more (up.One m) n = up.Several
 one_more up.Several n = up.Several
 
+-- that, by a test
 abbrev pub picked : Up → ℕ → Bool → Up
 picked u n b = cond b (one_more u n) u

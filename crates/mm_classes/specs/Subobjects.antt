@@ -6,6 +6,7 @@ use Rattle.mm_classes.specs.declared.class.Base.{Base}
 use Rattle.mm_classes.specs.Lists.{Has, firsts}
 use Rattle.mm_classes.specs.Classes.{Class, bases_of}
 
+-- a list of classes, by their numbers
 abbrev pub Path : Type 0
 Path = List ℕ
 
@@ -41,10 +42,11 @@ abbrev pub chains : List Class → ℕ → ℕ → List Path
 chains g zero c = (c ∷ []) ∷ []
 chains g (suc n) c = (c ∷ []) ∷ flat_map (λ b. map (λ p. c ∷ p) (chains g n b)) (plain_bases (bases_of g c))
 
--- what a depth-first, left-to-right walk of all bases of c meets as virtual; n bounds the depth
+-- a base, where it is virtual
 abbrev pub met : Base → List ℕ
 met b = cond b.shared (b.class ∷ []) []
 
+-- what a depth-first, left-to-right walk of all bases of c meets as virtual; n bounds the depth
 abbrev pub walk : List Class → ℕ → ℕ → List ℕ
 walk g zero c = []
 walk g (suc n) c = flat_map (λ (b : Base). met b ++ walk g n b.class) (bases_of g c)
@@ -58,11 +60,12 @@ abbrev pub subobjects_of : List Class → ℕ → List Path
 subobjects_of g d = chains g (length g) d ++ flat_map (chains g (length g)) (virtual_bases g d)
 
 -- COMPOSITION AND CONTAINMENT (Rossie and Friedman)
--- the class that ends a path
+-- the class that ends a path that begins with c
 abbrev pub last_of : ℕ → Path → ℕ
 last_of c [] = c
 last_of c (b ∷ bs) = last_of b bs
 
+-- the class that ends a path: the subobject is of this class
 abbrev pub end_of : Path → ℕ
 end_of [] = 0
 end_of (c ∷ cs) = last_of c cs

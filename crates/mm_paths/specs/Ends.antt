@@ -14,12 +14,15 @@ use Rattle.mm_paths.specs.declared.entry.GraphEnd.TheVariants as end
 abbrev pub plain_block : ℕ → Base → List Path → List Path
 plain_block c b ps = cond b.shared [] (map (λ p. c ∷ p) ps)
 
+-- the classes of bases
 abbrev pub classes_of : List Base → List ℕ
 classes_of bs = map (λ (b : Base). b.class) bs
 
+-- the i-th base
 abbrev pub base_at : List Base → ℕ → Base
 base_at bs i = get_or bs i (record { class = 0; shared = false; access = Public })
 
+-- all bases are of declared classes
 abbrev pub AreDeclared : List Class → List Base → Type 0
 AreDeclared g bs = (b : Base) → Has bs b → b.class < length g
 
@@ -27,6 +30,7 @@ AreDeclared g bs = (b : Base) → Has bs b → b.class < length g
 abbrev pub IsFine : List Class → List Base → ℕ → Type 0
 IsFine g bs i = (Has (classes_of (take i bs)) (base_at bs i).class → ⊥) × ((class_at g (base_at bs i).class).complete ≡ true)
 
+-- all are
 abbrev pub AreFine : List Class → List Base → Type 0
 AreFine g bs = (k : ℕ) → k < length bs → IsFine g bs k
 

@@ -11,12 +11,15 @@ use Rattle.mm_paths.specs.declared.entry.Entry.{Entry}
 use Rattle.mm_paths.specs.declared.entry.Parts.{Parts}
 use Rattle.mm_paths.specs.declared.entry.Node.{Node}
 
+-- the class that an entry stands for
 abbrev pub class_in : Entry → Class
 class_in e = record { name = e.name; complete = e.complete; bases = e.parts.bases.items; members = e.parts.members.items }
 
+-- the class list that the entries stand for
 abbrev pub classes_in : List Entry → List Class
 classes_in es = map class_in es
 
+-- the paths of nodes
 abbrev pub paths_in : List Node → List Path
 paths_in ns = map (λ (n : Node). n.path.items) ns
 
@@ -25,9 +28,11 @@ abbrev pub starts_from : (ℕ → List Path) → ℕ → List ℕ → List ℕ
 starts_from f n [] = []
 starts_from f n (v ∷ vs) = n ∷ starts_from f (n + length (f v)) vs
 
+-- where the subobjects of each virtual base of d begin
 abbrev pub starts_of : List Class → ℕ → List ℕ
 starts_of g d = starts_from (chains g (length g)) (length (chains g (length g) d)) (virtual_bases g d)
 
+-- the same of a class that is added
 abbrev pub new_starts : List Class → ℕ → List Base → List ℕ
 new_starts g c bs = starts_from (chains g (length g)) (length (new_chains g c bs)) (new_virtual_bases g bs)
 

@@ -100,6 +100,7 @@ pub fn push_new(seen: &mut Vec<ClassId>, x: ClassId) -> Result<(), AllocError>
     Ok(())
 }
 
+/// Puts each number at the end, where it is not there yet.
 pub fn push_all_new(seen: &mut Vec<ClassId>, xs: &[ClassId]) -> Result<(), AllocError>
     ensures { OnOk result (seen.new.items ≡ with_all_new seen.old.items xs.now) }
 {
@@ -109,6 +110,7 @@ pub fn push_all_new(seen: &mut Vec<ClassId>, xs: &[ClassId]) -> Result<(), Alloc
     Ok(())
 }
 
+/// Puts a base at the end where it is virtual, and then these others, where they are not there yet.
 pub fn push_base(seen: &mut Vec<ClassId>, base: &Base, more: &[ClassId]) -> Result<(), AllocError>
     ensures { OnOk result (seen.new.items ≡ with_all_new seen.old.items (met base.now ++ more.now)) }
 {

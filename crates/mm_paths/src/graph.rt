@@ -251,6 +251,7 @@ impl Graph {
         requires { IsComplete self.now c }
         ensures { Decides result (Derives self.now c b) }
     {
+        // Read here, so that the graph is known to be a class list.
         let _ = &self.entries;
         if c == b {
             return false;
