@@ -1,0 +1,13 @@
+pub mod Lists
+pub mod Subs
+pub mod Compose
+pub mod Answering
+pub mod Within
+pub mod Depth
+pub mod Deriving
+pub mod Growing
+pub mod Declaring
+pub mod Laws
+pub mod Examples
+pub mod Cuts
+pub mod Places

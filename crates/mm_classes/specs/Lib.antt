@@ -1,0 +1,6 @@
+pub mod Lists
+pub mod Classes
+pub mod Subobjects
+pub mod Questions
+pub mod Adding
+pub mod Laws

@@ -1,0 +1,9 @@
+pub mod Stored
+pub mod Searches
+pub mod Starts
+pub mod Keeping
+pub mod Added
+pub mod Declaring
+pub mod Building
+pub mod Looking
+pub mod Joined

@@ -1,0 +1,95 @@
+//! Searches among the nodes of a class.
+
+ghost use Rattle.std.specs.Prelude.{◌≡◌, ◌≢◌, ◌<◌, ◌≤◌, ◌+◌, ◌^◌, ℕ, List, [], ◌∷◌, ◌++◌, ◌⊎◌, length, get_or, Bool, true, false};
+ghost use Rattle.std.specs.Bool.{Decides};
+ghost use Rattle.mm_classes.specs.Lists.{Has};
+ghost use Rattle.mm_classes.specs.Subobjects.{end_of};
+ghost use Rattle.mm_classes.specs.Questions.{picked, as_up};
+
+use mm_classes::answer::{Around, Up};
+use mm_classes::id::{ClassId, NodeId};
+
+/// The class that ends a path.
+pub fn path_end(path: &[ClassId]) -> ClassId
+    requires { 0 < length path.now }
+    ensures { result ≡ end_of path.now }
+{
+    path[path.len() - 1]
+}
+
+/// The start beside the first place of a class.
+pub fn start_among(shared: &[ClassId], starts: &[usize], v: ClassId) -> usize
+    requires has { Has shared.now v }
+    requires long { length starts.now ≡ length shared.now }
+    ensures { (j : ℕ) × (j < length shared.now) × (get_or shared.now j 0 ≡ v) × (result ≡ get_or starts.now j 0) }
+{
+    let mut j = 0;
+    while shared[j] != v {
+        j += 1;
+    }
+    starts[j]
+}
+
+/// A place as a number of a node.
+pub fn node_id(place: usize) -> NodeId
+    requires { place < 2 ^ 32 }
+    ensures { result ≡ place }
+{
+    NodeId {
+        number: place as u32,
+    }
+}
+
+/// The answer so far, with one more number that fits or not.
+pub fn pick(found: Up, n: NodeId, fits: bool) -> Up
+    ensures { result ≡ picked found n fits }
+{
+    if !fits {
+        return found;
+    }
+    match found {
+        Up::None => Up::One(n),
+        Up::One(_) => Up::Several,
+        Up::Several => Up::Several,
+    }
+}
+
+/// Whether a path begins with another.
+pub fn starts(part: &[ClassId], whole: &[ClassId]) -> bool
+    ensures { Decides result ((u : List ℕ) × (part.now ≡ whole.now ++ u)) }
+{
+    if part.len() < whole.len() {
+        return false;
+    }
+    let head = &part[..whole.len()];
+    head == whole
+}
+
+/// Whether a number is among others.
+pub fn among(xs: &[ClassId], x: ClassId) -> bool
+    ensures { Decides result (Has xs.now x) }
+{
+    xs.contains(&x)
+}
+
+/// Whether a path goes on from `whole`, or begins at one of these virtual bases.
+pub fn goes_from(whole: &[ClassId], part: &[ClassId], shared: &[ClassId]) -> bool
+    requires { 0 < length part.now }
+    ensures { Decides result (((u : List ℕ) × (part.now ≡ whole.now ++ u)) ⊎ Has shared.now (get_or part.now 0 0)) }
+{
+    if starts(part, whole) {
+        return true;
+    }
+    among(shared, part[0])
+}
+
+/// The same answer, of subobjects that contain one.
+pub fn as_around(found: Up) -> Around
+    ensures { as_up result ≡ found }
+{
+    match found {
+        Up::One(node) => Around::One(node),
+        Up::None => Around::None,
+        Up::Several => Around::Several,
+    }
+}

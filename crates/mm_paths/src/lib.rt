@@ -1,0 +1,9 @@
+//! The graph of all declared classes, with the subobjects of each.
+#![tactic(auto)]
+
+pub mod build;
+pub mod entry;
+pub mod find;
+pub mod graph;
+#[cfg(test)]
+mod tests;
