@@ -1,0 +1,9 @@
+//! The trees of units, and the grammar that says what they are the trees of.
+#![tactic(auto)]
+
+pub mod decl;
+pub mod expr;
+pub mod name;
+pub mod part;
+pub mod stmt;
+pub mod symbol;
