@@ -1,1 +1,5 @@
 pub mod Symbols
+pub mod Built
+pub mod BuiltStatements
+pub mod BuiltDeclarations
+pub mod Rules
