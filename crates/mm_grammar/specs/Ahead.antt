@@ -142,6 +142,10 @@ module _ (L : Language) (C : Claims L) where
   Sealed (tailed {A} p closed q) = Sealed p × Sealed q × ((v : A) (k : ℕ) → IsTrue (closed v) → Follows p v k → IsTrue (has k (first_of q)) → ⊥)
   Sealed (give f p) = Sealed p
 
+  -- Both together: what the laws ask of a part.
+  abbrev pub Good : {A : Type 0} → PartOf L A → Type 0
+  Good p = IsTrue (is_good p) × Sealed p
+
   -- The part has no tails, so that it is sealed.
   abbrev pub has_no_tail : {A : Type 0} → PartOf L A → Bool
   has_no_tail (one cs) = true
