@@ -7,3 +7,5 @@ pub mod Plain
 pub mod Reading
 pub mod Loops
 pub mod Here
+pub mod Forks
+pub mod Tails

@@ -10,11 +10,11 @@ use Rattle.mm_grammar.proofs.Follow.{spell_follows, spell_once}
 use Rattle.mm_grammar.proofs.Closed.{lawful, fold_spells, unfold_spells, fold_front}
 
 -- the first token of a list with k in it doesn't depend on what follows k
-starts : {T : Type 0} → (b : List T) (k : T) (r s : List T) (y : T) (z : List T) → b ++ k ∷ r ≡ y ∷ z → (x : List T) × (b ++ k ∷ s ≡ y ∷ x)
+pub starts : {T : Type 0} → (b : List T) (k : T) (r s : List T) (y : T) (z : List T) → b ++ k ∷ r ≡ y ∷ z → (x : List T) × (b ++ k ∷ s ≡ y ∷ x)
 starts [] k r s y z e = let same : k ≡ y = cc in (s, ap (λ w. w ∷ s) same)
 starts (w ∷ b) k r s y z e = let same : w ≡ y = cc in (b ++ k ∷ s, ap (λ w. w ∷ (b ++ k ∷ s)) same)
 
-split_head : {T : Type 0} → (b : List T) (k : T) (r : List T) → (y : T) × (z : List T) × (b ++ k ∷ r ≡ y ∷ z)
+pub split_head : {T : Type 0} → (b : List T) (k : T) (r : List T) → (y : T) × (z : List T) × (b ++ k ∷ r ≡ y ∷ z)
 split_head [] k r = (k, r, refl)
 split_head (w ∷ b) k r = (w, b ++ k ∷ r, refl)
 
