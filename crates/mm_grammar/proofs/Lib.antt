@@ -9,3 +9,4 @@ pub mod Loops
 pub mod Here
 pub mod Forks
 pub mod Tails
+pub mod Small
