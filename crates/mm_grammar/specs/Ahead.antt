@@ -1,7 +1,7 @@
 -- Why one token ahead decides, and two at a fork. These are claims on a language, which are checked against its
 -- rules; what its parts spell doesn't rest on them. Own.
 use Rattle.std.specs.Prelude.{◌≡◌, ℕ, Bool, true, false, not, ◌&&◌, ◌||◌, if◌then◌else◌, IsTrue, List, [], ◌∷◌, ◌++◌, ◌⊎◌, Option, Some, None}
-use Rattle.mm_grammar.specs.Grammar.{one, name, nothing, seq, alt, fork, many, tailed, give, Language, PartOf, has}
+use Rattle.mm_grammar.specs.Grammar.{one, name, nothing, seq, alt, fork, many, tailed, kept, give, Language, PartOf, has}
 
 -- The two have no class together.
 abbrev pub disjoint : List ℕ → List ℕ → Bool
@@ -58,6 +58,7 @@ module _ (L : Language) (C : Claims L) where
   empty_of (fork p q) = empty_of p || empty_of q
   empty_of (many p) = true
   empty_of (tailed p closed q) = empty_of p
+  empty_of (kept p) = empty_of p
   empty_of (give f p) = empty_of p
 
   abbrev pub first_of : {A : Type 0} → PartOf L A → List ℕ
@@ -69,6 +70,7 @@ module _ (L : Language) (C : Claims L) where
   first_of (fork p q) = first_of p ++ first_of q
   first_of (many p) = first_of p
   first_of (tailed p closed q) = first_of p
+  first_of (kept p) = first_of p
   first_of (give f p) = first_of p
 
   abbrev pub more_of : {A : Type 0} → PartOf L A → List ℕ
@@ -80,6 +82,7 @@ module _ (L : Language) (C : Claims L) where
   more_of (fork p q) = more_of p ++ more_of q
   more_of (many p) = more_of p ++ first_of p
   more_of (tailed p closed q) = (more_of p ++ first_of q) ++ more_of q
+  more_of (kept p) = more_of p
   more_of (give f p) = more_of p
 
   -- A token of class k can follow a text of the part with this value, within a longer front.
@@ -92,6 +95,7 @@ module _ (L : Language) (C : Claims L) where
   Follows (fork p q) v k = Follows p v k ⊎ Follows q v k
   Follows (many p) vs k = Some_of (λ v. Follows p v k) vs ⊎ IsTrue (has k (first_of p))
   Follows (tailed p closed q) v k = AtTail (λ a. Follows p a k) (IsTrue (has k (first_of q))) (λ w. Follows q w k) v.0 v.1
+  Follows (kept p) v k = Follows p v.1 k
   Follows (give {A} f p) v k = (w : A) × (v ≡ f w) × Follows p w k
 
   -- whether a token of a shared class is a text
@@ -104,6 +108,7 @@ module _ (L : Language) (C : Claims L) where
   alone_of (fork p q) = alone_of p || alone_of q
   alone_of (many p) = alone_of p
   alone_of (tailed p closed q) = alone_of p
+  alone_of (kept p) = alone_of p
   alone_of (give f p) = alone_of p
 
   -- the classes of second tokens, after a first one of a shared class
@@ -116,6 +121,7 @@ module _ (L : Language) (C : Claims L) where
   second_of (fork p q) = second_of p ++ second_of q
   second_of (many p) = second_of p ++ (if alone_of p then first_of p else [])
   second_of (tailed p closed q) = second_of p ++ (if alone_of p then first_of q else [])
+  second_of (kept p) = second_of p
   second_of (give f p) = second_of p
 
   -- One token ahead decides in the part, and two at its forks.
@@ -128,6 +134,7 @@ module _ (L : Language) (C : Claims L) where
   is_good (fork p q) = (is_good p && is_good q) && ((not (empty_of p || empty_of q) && not (alone_of p || alone_of q)) && (meet_within (first_of p) (first_of q) C.shared && disjoint (second_of p) (second_of q)))
   is_good (many p) = is_good p && (not (empty_of p) && disjoint (more_of p) (first_of p))
   is_good (tailed p closed q) = (is_good p && is_good q) && (not (empty_of p) && not (empty_of q))
+  is_good (kept p) = is_good p
   is_good (give f p) = is_good p
 
   -- No tail's first token can follow what stands closed before it.
@@ -140,6 +147,7 @@ module _ (L : Language) (C : Claims L) where
   Sealed (fork p q) = Sealed p × Sealed q
   Sealed (many p) = Sealed p
   Sealed (tailed {A} p closed q) = Sealed p × Sealed q × ((v : A) (k : ℕ) → IsTrue (closed v) → Follows p v k → IsTrue (has k (first_of q)) → ⊥)
+  Sealed (kept p) = Sealed p
   Sealed (give f p) = Sealed p
 
   -- Both together: what the laws ask of a part.
@@ -156,6 +164,7 @@ module _ (L : Language) (C : Claims L) where
   has_no_tail (fork p q) = has_no_tail p && has_no_tail q
   has_no_tail (many p) = has_no_tail p
   has_no_tail (tailed p closed q) = false
+  has_no_tail (kept p) = has_no_tail p
   has_no_tail (give f p) = has_no_tail p
 
   -- The rule of a name is good, and the claims hold of it.

@@ -18,6 +18,8 @@ pub data Part (T X : Type 0) (V : X → Type 0) : Type 0 → Type 1 where
   many : {A : Type 0} → Part T X V A → Part T X V (List A)
   -- the first, and where its value is closed maybe the second after it
   tailed : {A B : Type 0} → Part T X V A → (A → Bool) → Part T X V B → Part T X V (A × Option B)
+  -- the same, with its tokens
+  kept : {A : Type 0} → Part T X V A → Part T X V (List T × A)
   -- the same with another value, which the function gives
   give : {A B : Type 0} → (A → B) → Part T X V A → Part T X V B
 
@@ -62,6 +64,7 @@ module _ (L : Language) where
   spells_in R (fork p q) ts v = spells_in R p ts v ⊎ spells_in R q ts v
   spells_in R (many p) ts vs = Each (spells_in R p) ts vs
   spells_in R (tailed p closed q) ts v = Tail (spells_in R p) closed (spells_in R q) ts v.0 v.1
+  spells_in R (kept p) ts v = (v.0 ≡ ts) × spells_in R p ts v.1
   spells_in R (give {A} f p) ts v = (w : A) × (v ≡ f w) × spells_in R p ts w
 
   -- The fronts of a part, where R says what the rules spell and F what their fronts are: what the first parts
@@ -75,6 +78,7 @@ module _ (L : Language) where
   front_in R F (fork p q) ts = front_in R F p ts ⊎ front_in R F q ts
   front_in R F (many {A} p) ts = (a : List L.Token) × (b : List L.Token) × (vs : List A) × (ts ≡ a ++ b) × Each (spells_in R p) a vs × front_in R F p b
   front_in R F (tailed {A} p closed q) ts = front_in R F p ts ⊎ ((a : List L.Token) × (b : List L.Token) × (v : A) × (ts ≡ a ++ b) × spells_in R p a v × IsTrue (closed v) × front_in R F q b)
+  front_in R F (kept p) ts = front_in R F p ts
   front_in R F (give f p) ts = front_in R F p ts
 
   -- The same with derivations at most n rules deep.
