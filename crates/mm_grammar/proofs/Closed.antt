@@ -1,6 +1,6 @@
 -- The laws hold of the rules, where the claims on the language fit them.
 use Rattle.std.proofs.Common.{◌≡◌, ℕ, zero, suc, ◌+◌, Bool, not, ◌&&◌, ◌||◌, IsTrue, List, [], ◌∷◌, ◌++◌, Option, Some, None, inl, inr, refl, arith, subst}
-use Rattle.mm_grammar.specs.Grammar.{one, name, nothing, seq, alt, fork, many, tailed, give, Language, PartOf, Each, Tail, spells_in, front_in, spells_at, front_at, RuleSpells, RuleFront, Spells, Front}
+use Rattle.mm_grammar.specs.Grammar.{one, name, nothing, seq, alt, fork, many, tailed, kept, give, Language, PartOf, Each, Tail, spells_in, front_in, spells_at, front_at, RuleSpells, RuleFront, Spells, Front}
 use Rattle.mm_grammar.specs.Ahead.{Claims, within, first_of, more_of, empty_of, second_of, alone_of, is_good, Good, Fit}
 use Rattle.mm_grammar.proofs.Lists.{and_left, and_right, or_cases, not_both, has-within}
 use Rattle.mm_grammar.proofs.Deep.{each_along, spells_along, front_along, spells_more, front_more, front_at_nil}
@@ -73,6 +73,7 @@ module _ (L : Language) where
   ]
   spells_bound (tailed p closed q) ts v h = tail_bound p closed q (spells_bound p) (spells_bound q) ts v.0 v.1 h
   spells_bound (many p) ts vs h = each_bound p (spells_bound p) ts vs h
+  spells_bound (kept p) ts v h = let a = spells_bound p ts v.1 h.1 in (a.0, (h.0, a.1))
   spells_bound (give f p) ts v h = let a = spells_bound p ts h.0 h.2 in (a.0, (h.0, h.1, a.1))
 
   front_up : {A : Type 0} → (p : PartOf L A) (n m : ℕ) (ts : List L.Token) → front_in L (spells_at L n) (front_at L n) p ts → front_in L (spells_at L (n + m)) (front_at L (n + m)) p ts
@@ -129,6 +130,7 @@ module _ (L : Language) where
           front_up_right p a.0 b.0 h.1 b.1,
         ),
       )
+  front_bound (kept p) ts h = front_bound p ts h
   front_bound (give f p) ts h = front_bound p ts h
 
   -- ---- a name is its rule

@@ -1,6 +1,6 @@
 -- Derivations: what holds at a depth holds deeper, and a text of a part has some depth.
 use Rattle.std.proofs.Common.{◌≡◌, ℕ, zero, suc, ◌+◌, Bool, List, [], ◌∷◌, Option, Some, None, inl, inr, refl, sym, arith, subst}
-use Rattle.mm_grammar.specs.Grammar.{one, name, nothing, seq, alt, fork, many, tailed, give, Language, PartOf, Each, Tail, spells_in, front_in, spells_at, front_at}
+use Rattle.mm_grammar.specs.Grammar.{one, name, nothing, seq, alt, fork, many, tailed, kept, give, Language, PartOf, Each, Tail, spells_in, front_in, spells_at, front_at}
 
 pub each_along : {T A : Type 0} (P Q : List T → A → Type 0) → ((ts : List T) (v : A) → P ts v → Q ts v) → (ts : List T) (vs : List A) → Each P ts vs → Each Q ts vs
 each_along P Q f ts [] h = h
@@ -25,6 +25,7 @@ module _ (L : Language) where
     spells_along (fork p q) ts v h = elim h [ inl i ↦ inl (spells_along p ts v i) | inr i ↦ inr (spells_along q ts v i) ]
     spells_along (tailed p closed q) ts v h = tail_along (spells_in L R p) (spells_in L S p) closed (spells_in L R q) (spells_in L S q) (λ us w i. spells_along p us w i) (λ us w i. spells_along q us w i) ts v.0 v.1 h
     spells_along (many p) ts vs h = each_along (spells_in L R p) (spells_in L S p) (λ us v i. spells_along p us v i) ts vs h
+    spells_along (kept p) ts v h = (h.0, spells_along p ts v.1 h.1)
     spells_along (give g p) ts v h = (h.0, h.1, spells_along p ts h.0 h.2)
 
     module _ (F G : (x : L.Name) → List L.Token → Type 0) (g : (x : L.Name) (ts : List L.Token) → F x ts → G x ts) where
@@ -43,6 +44,7 @@ module _ (L : Language) where
         | inr i ↦ inr (i.0, i.1, i.2, i.3, spells_along p i.0 i.2 i.4, i.5, front_along q i.1 i.6)
       ]
       front_along (many p) ts h = (h.0, h.1, h.2, h.3, each_along (spells_in L R p) (spells_in L S p) (λ us v i. spells_along p us v i) h.0 h.2 h.4, front_along p h.1 h.5)
+      front_along (kept p) ts h = front_along p ts h
       front_along (give k p) ts h = front_along p ts h
 
   pub spells_more : (n m : ℕ) (x : L.Name) (ts : List L.Token) (v : L.Value x) → spells_at L n x ts v → spells_at L (n + m) x ts v
@@ -60,6 +62,7 @@ module _ (L : Language) where
   front_nil_in R F f (fork p q) = inl (front_nil_in R F f p)
   front_nil_in R F f (tailed p closed q) = inl (front_nil_in R F f p)
   front_nil_in R F f (many p) = ([], [], [], refl, refl, front_nil_in R F f p)
+  front_nil_in R F f (kept p) = front_nil_in R F f p
   front_nil_in R F f (give g p) = front_nil_in R F f p
 
   pub front_at_nil : (n : ℕ) (x : L.Name) → front_at L n x []

@@ -1,6 +1,6 @@
 -- What can follow a whole text, and that a text has one value.
 use Rattle.std.proofs.Common.{◌≡◌, ℕ, Bool, not, IsTrue, List, [], ◌∷◌, ◌++◌, Option, Some, None, inl, inr, refl, ap, sym, ◌∙◌, subst, append_assoc}
-use Rattle.mm_grammar.specs.Grammar.{one, name, nothing, seq, alt, fork, many, tailed, give, Language, PartOf, Each, Tail, spells_in, front_in, has}
+use Rattle.mm_grammar.specs.Grammar.{one, name, nothing, seq, alt, fork, many, tailed, kept, give, Language, PartOf, Each, Tail, spells_in, front_in, has}
 use Rattle.mm_grammar.specs.Ahead.{Claims, disjoint, first_of, more_of, empty_of, alone_of, second_of, Good, Follows, AtTail}
 use Rattle.mm_grammar.proofs.Lists.{not_both, apart, has-meet, equal, later, earlier, cuts}
 use Rattle.mm_grammar.proofs.Laws.{Lawful, good_left, good_right, good_apart, alt_left, alt_right, alt_apart, alt_one_empty, many_part, many_full, many_apart, fork_is, tailed_is, follows_more, nil_left, head_of, pair_eq, spell_front, spell_empty, front_first, lead_each, lead_many, spell_alone, front_second}
@@ -215,6 +215,7 @@ module _ (L : Language) (C : Claims L) (R : (x : L.Name) → List L.Token → L.
   spell_follows (many p) g u vs k r s f = follow_many p g (spell_follows p (many_part L C p g)) k r u vs s f.0 f.1 f.2 f.3 f.4 f.5
   spell_follows (tailed p closed q) g u v k r s f =
       follow_tailed p closed q g (spell_follows p (tailed_is L C p closed q g).left) (spell_follows q (tailed_is L C p closed q g).right) u v.0 v.1 k r s f
+  spell_follows (kept p) g u v k r s f = spell_follows p g u v.1 k r s.1 f
   spell_follows (give h p) g u v k r s f = (s.0, s.1, spell_follows p g u s.0 k r s.2 f)
 
   -- ---- one value
@@ -301,4 +302,5 @@ module _ (L : Language) (C : Claims L) (R : (x : L.Name) → List L.Token → L.
   spell_once (tailed p closed q) g u v w s t =
       let e = once_tailed p closed q g (spell_once p (tailed_is L C p closed q g).left) (spell_once q (tailed_is L C p closed q g).right) u v.0 v.1 w.0 w.1 s t in
       pair_eq v w e.0 e.1
+  spell_once (kept p) g u v w s t = pair_eq v w (s.0 ∙ sym t.0) (spell_once p g u v.1 w.1 s.1 t.1)
   spell_once (give f p) g u v w s t = s.1 ∙ (ap f (spell_once p g u s.0 t.0 s.2 t.2) ∙ sym t.1)

@@ -1,7 +1,7 @@
 -- Why one token ahead decides: the laws of parts, where they hold of the rules.
 use Rattle.std.proofs.Common.{◌≡◌, ℕ, Bool, not, ◌&&◌, ◌||◌, if◌then◌else◌, IsTrue, List, [], ◌∷◌, ◌++◌, ◌⊎◌, Option, Some, None, inl, inr, refl, ap, sym, ◌∙◌, subst, append_assoc}
 use Rattle.std.proofs.lemmas.List.{append-nil}
-use Rattle.mm_grammar.specs.Grammar.{one, name, nothing, seq, alt, fork, many, tailed, give, Language, PartOf, Each, Tail, spells_in, front_in, has}
+use Rattle.mm_grammar.specs.Grammar.{one, name, nothing, seq, alt, fork, many, tailed, kept, give, Language, PartOf, Each, Tail, spells_in, front_in, has}
 use Rattle.mm_grammar.specs.Ahead.{Claims, disjoint, meet_within, first_of, more_of, empty_of, alone_of, second_of, is_good, Good, Follows, Some_of, AtTail}
 use Rattle.mm_grammar.proofs.Lists.{both, and_left, and_right, or_left, or_right, not_both, not_either, has-left, has-right, meets, has-when}
 
@@ -130,6 +130,7 @@ module _ (L : Language) (C : Claims L) where
   ]
   follows_more (tailed p closed q) v k h =
       at_tail_more (λ a. Follows L C p a k) (IsTrue (has k (first_of L C q))) (λ w. Follows L C q w k) (more_of L C p) (first_of L C q) (more_of L C q) k (λ a j. follows_more p a k j) (λ j. j) (λ w j. follows_more q w k j) v.0 v.1 h
+  follows_more (kept p) v k h = follows_more p v.1 k h
   follows_more (give f p) v k h = follows_more p h.0 k h.2
 
 -- ---- lists in two pieces
@@ -169,6 +170,7 @@ module _ (L : Language) (C : Claims L) (R : (x : L.Name) → List L.Token → L.
   front_nil (fork p q) = inl (front_nil p)
   front_nil (many p) = ([], [], [], refl, refl, front_nil p)
   front_nil (tailed p closed q) = inl (front_nil p)
+  front_nil (kept p) = front_nil p
   front_nil (give g p) = front_nil p
 
   -- a whole text is a front
@@ -186,6 +188,7 @@ module _ (L : Language) (C : Claims L) (R : (x : L.Name) → List L.Token → L.
   spell_front (fork p q) u v h = elim h [ inl i ↦ inl (spell_front p u v i) | inr i ↦ inr (spell_front q u v i) ]
   spell_front (many p) u vs h = (u, [], vs, sym (append-nil u), h, front_nil p)
   spell_front (tailed p closed q) u v h = tail_front p closed q (spell_front p) (spell_front q) u v.0 v.1 h
+  spell_front (kept p) u v h = spell_front p u v.1 h.1
   spell_front (give g p) u v h = spell_front p u h.0 h.2
 
   -- only what may be empty spells nothing
@@ -205,6 +208,7 @@ module _ (L : Language) (C : Claims L) (R : (x : L.Name) → List L.Token → L.
   spell_empty (fork p q) v h = elim h [ inl i ↦ or_left (empty_of L C p) (empty_of L C q) (spell_empty p v i) | inr i ↦ or_right (empty_of L C p) (empty_of L C q) (spell_empty q v i) ]
   spell_empty (many p) vs h = refl
   spell_empty (tailed p closed q) v h = tail_empty p closed q (spell_empty p) v.0 v.1 h
+  spell_empty (kept p) v h = spell_empty p v.1 h.1
   spell_empty (give g p) v h = spell_empty p h.0 h.2
 
   -- ---- first tokens
@@ -259,6 +263,7 @@ module _ (L : Language) (C : Claims L) (R : (x : L.Name) → List L.Token → L.
       | inr j ↦ absurd (not_both (empty_of L C p) (tailed_is L C p closed q g).full j.0)
     ]
   ]
+  front_first (kept p) g k r h = front_first p g k r h
   front_first (give f p) g k r h = front_first p g k r h
 
   -- ---- second tokens
@@ -297,6 +302,7 @@ module _ (L : Language) (C : Claims L) (R : (x : L.Name) → List L.Token → L.
       [ inl i ↦ or_left (alone_of L C p) (alone_of L C q) (spell_alone p (fork_is L C p q g).left k v s i) | inr i ↦ or_right (alone_of L C p) (alone_of L C q) (spell_alone q (fork_is L C p q g).right k v s i) ]
   spell_alone (many p) g k vs s h = alone_each p (many_full L C p g) k (λ v i. spell_alone p (many_part L C p g) k v s i) vs h
   spell_alone (tailed p closed q) g k v s h = alone_tail p closed q (tailed_is L C p closed q g).full k (λ v i. spell_alone p (tailed_is L C p closed q g).left k v s i) v.0 v.1 h
+  spell_alone (kept p) g k v s h = spell_alone p g k v.1 s h.1
   spell_alone (give f p) g k v s h = spell_alone p g k h.0 s h.2
 
   second_many : {A : Type 0} → (p : PartOf L A) → Good L C (many p) → (k y : L.Token) (r : List L.Token) → IsTrue (has (L.class k) C.shared) → ((r : List L.Token) → front_in L R F p (k ∷ y ∷ r) → IsTrue (has (L.class y) (second_of L C p))) →
@@ -357,4 +363,5 @@ module _ (L : Language) (C : Claims L) (R : (x : L.Name) → List L.Token → L.
       ]
     ]
   ]
+  front_second (kept p) g k y r s h = front_second p g k y r s h
   front_second (give f p) g k y r s h = front_second p g k y r s h

@@ -1,6 +1,6 @@
 -- Parts without tails: what is computed of them is all.
 use Rattle.std.proofs.Common.{ℕ, Bool, ◌&&◌, IsTrue, List}
-use Rattle.mm_grammar.specs.Grammar.{one, name, nothing, seq, alt, fork, many, tailed, give, Language, PartOf, has}
+use Rattle.mm_grammar.specs.Grammar.{one, name, nothing, seq, alt, fork, many, tailed, kept, give, Language, PartOf, has}
 use Rattle.mm_grammar.specs.Ahead.{Claims, plain, within, first_of, more_of, is_good, Sealed, Good, Follows, has_no_tail, fits, Fit}
 use Rattle.mm_grammar.proofs.Lists.{and_left, and_right, has-within}
 use Rattle.mm_grammar.proofs.Laws.{follows_more}
@@ -15,6 +15,7 @@ module _ (L : Language) (C : Claims L) where
   plain_sealed (fork p q) h = (plain_sealed p (and_left (has_no_tail L C p) (has_no_tail L C q) h), plain_sealed q (and_right (has_no_tail L C p) (has_no_tail L C q) h))
   plain_sealed (many p) h = plain_sealed p h
   plain_sealed (tailed p closed q) h = absurd (cc)
+  plain_sealed (kept p) h = plain_sealed p h
   plain_sealed (give f p) h = plain_sealed p h
 
   pub plain_good : {A : Type 0} → (p : PartOf L A) → IsTrue (is_good L C p && has_no_tail L C p) → Good L C p

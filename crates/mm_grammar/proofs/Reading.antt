@@ -1,7 +1,7 @@
 -- How the reading of a part follows from the readings of its parts.
 use Rattle.std.proofs.Common.{◌≡◌, ℕ, zero, suc, ◌+◌, ◌<◌, ◌≤◌, not, IsTrue, List, [], ◌∷◌, ◌++◌, ◌⊎◌, inl, inr, refl, ap, sym, ◌∙◌, arith, subst, append_assoc, length}
-use Rattle.std.proofs.lemmas.List.{append-nil, length-append}
-use Rattle.mm_grammar.specs.Grammar.{one, name, nothing, seq, alt, many, give, Language, PartOf, Each, front_at, RuleSpells, RuleFront, Spells, Front, Begins, Avoids, Stuck, Reads, Fails, has}
+use Rattle.std.proofs.lemmas.List.{append-nil, length-append, append_cancel_right}
+use Rattle.mm_grammar.specs.Grammar.{one, name, nothing, seq, alt, many, kept, give, Language, PartOf, Each, front_at, RuleSpells, RuleFront, Spells, Front, Begins, Avoids, Stuck, Reads, Fails, has}
 use Rattle.mm_grammar.specs.Ahead.{Claims, disjoint, first_of, more_of, empty_of, Good, Fit}
 use Rattle.mm_grammar.proofs.Lists.{not_both, apart, equal, later, earlier, cuts}
 use Rattle.mm_grammar.proofs.Deep.{front_along}
@@ -325,6 +325,15 @@ module _ (L : Language) (C : Claims L) (fit : Fit L C) where
 
   pub map_fail : {A B : Type 0} → (f : A → B) (p : PartOf L A) (ts r : List L.Token) → Fails L p ts r → Fails L (give f p) ts r
   map_fail f p ts r a = record { used = a.used; cut = a.cut; front = a.front; not_spelled = λ v s. a.not_spelled s.0 s.2; stuck = a.stuck }
+
+  -- with the tokens that were used
+  pub kept_ok : {A : Type 0} → (p : PartOf L A) (ts u r : List L.Token) (v : A) → ts ≡ u ++ r → Reads L p ts v r → Reads L (kept p) ts (u, v) r
+  kept_ok p ts u r v e a =
+      let same : a.used ≡ u = append_cancel_right a.used u r (sym a.cut ∙ e) in
+      record { used = a.used; cut = a.cut; spelled = (sym same, a.spelled); stuck = a.stuck }
+
+  pub kept_fail : {A : Type 0} → (p : PartOf L A) (ts r : List L.Token) → Fails L p ts r → Fails L (kept p) ts r
+  kept_fail p ts r a = record { used = a.used; cut = a.cut; front = a.front; not_spelled = λ v s. a.not_spelled v.1 s.1; stuck = a.stuck }
 
   unfold_front : (x : L.Name) (ts : List L.Token) → RuleFront L x ts → Front L (L.rule x) ts
   unfold_front x ts h = go h.0 h.1
