@@ -150,6 +150,10 @@ module _ (L : Language) (C : Claims L) where
   Sealed (kept p) = Sealed p
   Sealed (give f p) = Sealed p
 
+  -- Both together: what the laws ask of a part.
+  abbrev pub Good : {A : Type 0} → PartOf L A → Type 0
+  Good p = IsTrue (is_good p) × Sealed p
+
   -- The part has no tails, so that it is sealed.
   abbrev pub has_no_tail : {A : Type 0} → PartOf L A → Bool
   has_no_tail (one cs) = true

@@ -107,6 +107,13 @@ module _ (L : Language) where
 
   -- ---- reading from the left
 
+  -- The tokens begin with one of these classes, or with none of them.
+  abbrev pub Begins : List ℕ → List L.Token → Type 0
+  Begins cs ts = (k : L.Token) × (r : List L.Token) × (ts ≡ k ∷ r) × IsTrue (has (L.class k) cs)
+
+  abbrev pub Avoids : List ℕ → List L.Token → Type 0
+  Avoids cs ts = (k : L.Token) (r : List L.Token) → ts ≡ k ∷ r → IsTrue (has (L.class k) cs) → ⊥
+
   -- No front goes on from used with the first token of rest.
   abbrev pub Stuck : {A : Type 0} → PartOf L A → List L.Token → List L.Token → Type 0
   Stuck p used rest = (k : L.Token) (r tail : List L.Token) → rest ≡ k ∷ r → Front p (used ++ k ∷ tail) → ⊥
