@@ -184,5 +184,5 @@ class_body bases members = record { bases = listed bases; members = members }
 abbrev pub class_decl : List Token → Token → Token → Option ClassBody → Decl
 class_decl tokens word class body = record {
   kind = d.Class (record { kind = class_kind tokens (key_for (symbol_of word)) (name_of class) body; place = word.place });
-  place = word.place
+  place = word.place;
 }
