@@ -24,6 +24,7 @@ use Rattle.mm_syntax.specs.declared.stmt.ForStart.{ForStart}
 use Rattle.mm_syntax.specs.declared.stmt.ForStart.TheVariants as start
 use Rattle.mm_syntax.specs.declared.stmt.StmtKind.TheVariants as s
 use Rattle.mm_syntax.specs.declared.decl.Param.{Param}
+use Rattle.mm_syntax.specs.declared.decl.Params.{Params}
 use Rattle.mm_syntax.specs.declared.decl.Init.{Init}
 use Rattle.mm_syntax.specs.declared.decl.ConstructorBody.{ConstructorBody}
 use Rattle.mm_syntax.specs.declared.decl.Base.{Base}
@@ -63,7 +64,7 @@ abbrev pub Value : Rule → Type 0
 Value unit = List Decl
 Value decl = Decl
 Value item = Member
-Value params = List Param
+Value params = Params
 Value param = Param
 Value inits = List Init
 Value init = Init
@@ -261,7 +262,7 @@ abbrev pub body : P Stmt
 body = name (block nesting)
 
 -- ( params )
-abbrev pub parameters : P (List Param)
+abbrev pub parameters : P Params
 parameters = token (k.Open ∷ []) ▸ name params ◂ token (k.Close ∷ [])
 
 -- (* | &)? W?
@@ -290,6 +291,12 @@ more_params = many (token (k.Comma ∷ []) ▸ name param)
 -- what follows a first `void`
 abbrev pub after_void : P (Option (ParamEnd × List Param))
 after_void = opt (seq void_end more_params)
+
+-- params, but not nothing
+abbrev pub some_params : P Params
+some_params = alt
+    (give (λ v. bd.after_void v.0 v.1) (seq void_type after_void))
+    (give (λ v. bd.params_of (v.0 ∷ v.1)) (seq other_param more_params))
 
 -- ; or block
 abbrev pub function_body : P (Option Stmt)
@@ -349,7 +356,7 @@ abbrev pub method_body : P Stmt
 method_body = body ◂ opt (token (k.Semicolon ∷ []))
 
 -- ( params ) (; | block ;?)
-abbrev pub method_end : P (List Param × Option Stmt)
+abbrev pub method_end : P (Params × Option Stmt)
 method_end = seq parameters (alt (give (λ t. None) (token (k.Semicolon ∷ []))) (give (λ v. Some v) method_body))
 
 -- , (* | &)? W
@@ -413,9 +420,7 @@ rule_of item = alt
     (give (λ v. bd.typed_member v.0 v.1) (seq (alt void_type number_type) member_tail))
     (give (λ v. bd.after_in_class v.0 v.1) (seq (token (k.Class ∷ [])) after_member_class)))))
 -- `void` stands alone, or begins the first parameter.
-rule_of params = give b.listed (opt (alt
-    (give (λ v. bd.after_void v.0 v.1) (seq void_type after_void))
-    (give (λ v. v.0 ∷ v.1) (seq other_param more_params))))
+rule_of params = give bd.given_params (opt some_params)
 rule_of param = alt (give (λ v. bd.param None v.0 v.1) (seq void_type void_end)) other_param
 rule_of inits = give (λ v. v.0 ∷ v.1) (token (k.Colon ∷ []) ▸ seq (name init) (many (token (k.Comma ∷ []) ▸ name init)))
 rule_of init = give (λ v. bd.init v.0 v.1) (seq (token (k.Word ∷ k.Class ∷ [])) call)
