@@ -140,7 +140,7 @@ ahead = record {
   empty = may_be_empty;
   shared = numbers (k.Class ∷ []);
   second = λ x. numbers (seconds x);
-  alone = is_alone
+  alone = is_alone;
 }
 
 -- ---- checked against the rules

@@ -14,6 +14,7 @@ use Rattle.mm_syntax.specs.declared.expr.Expr.{Expr}
 use Rattle.mm_syntax.specs.declared.expr.TypeName.{TypeName}
 use Rattle.mm_syntax.specs.declared.stmt.Stmt.{Stmt}
 use Rattle.mm_syntax.specs.declared.decl.Param.{Param}
+use Rattle.mm_syntax.specs.declared.decl.Params.{Params}
 use Rattle.mm_syntax.specs.declared.decl.Head.{Head}
 use Rattle.mm_syntax.specs.declared.decl.Init.{Init}
 use Rattle.mm_syntax.specs.declared.decl.ConstructorBody.{ConstructorBody}
@@ -66,14 +67,21 @@ param_end mark word = record { mark = mark; name = name_if word }
 abbrev pub param : Option Token → TypeName → ParamEnd → Param
 param word type_name last = record { virtual_at = place_if word; type_name = type_name; mark = last.mark; name = last.name }
 
+abbrev pub params_of : List Param → Params
+params_of list = record { has_void = false; list = list }
+
 -- the parameters that follow `void`, which begins the first of them, or stands alone
-abbrev pub after_void : TypeName → Option (ParamEnd × List Param) → List Param
-after_void type_name None = []
-after_void type_name (Some v) = param None type_name v.0 ∷ v.1
+abbrev pub after_void : TypeName → Option (ParamEnd × List Param) → Params
+after_void type_name None = record { has_void = true; list = [] }
+after_void type_name (Some v) = params_of (param None type_name v.0 ∷ v.1)
+
+abbrev pub given_params : Option Params → Params
+given_params None = params_of []
+given_params (Some v) = v
 
 -- ---- functions outside classes
 
-abbrev pub head : TypeName → Option DeclaratorMark → Name → List Param → Head
+abbrev pub head : TypeName → Option DeclaratorMark → Name → Params → Head
 head type_name mark word params = record { type_name = type_name; mark = mark; name = word; params = params }
 
 abbrev pub function_kind : TypeName → Option DeclaratorMark → FunctionEnd → FnDeclKind
@@ -130,13 +138,13 @@ member_function kind place = m.Function (record { kind = kind; place = place })
 abbrev pub member_tail : Option DeclaratorMark → Token → MemberEnd → MemberTail
 member_tail mark word last = record { mark = mark; name = name_of word; end = last }
 
-abbrev pub method_tail : Option DeclaratorMark → Token → List Param → Option Stmt → MethodTail
+abbrev pub method_tail : Option DeclaratorMark → Token → Params → Option Stmt → MethodTail
 method_tail mark word params body = record { mark = mark; name = name_of word; params = params; body = body }
 
 abbrev pub destructor_tail : Token → Token → Option Token → DestructorTail
 destructor_tail tilde class void_word = record { start = tilde.place; name = name_of class; has_void = is_given void_word }
 
-abbrev pub constructor_tail : List Param → Option ConstructorBody → ConstructorTail
+abbrev pub constructor_tail : Params → Option ConstructorBody → ConstructorTail
 constructor_tail params body = record { params = params; body = body }
 
 abbrev pub typed_end : TypeName → Option DeclaratorMark → Name → MemberEnd → Member
@@ -184,5 +192,5 @@ class_body bases members = record { bases = listed bases; members = members }
 abbrev pub class_decl : List Token → Token → Token → Option ClassBody → Decl
 class_decl tokens word class body = record {
   kind = d.Class (record { kind = class_kind tokens (key_for (symbol_of word)) (name_of class) body; place = word.place });
-  place = word.place
+  place = word.place;
 }

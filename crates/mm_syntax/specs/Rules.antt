@@ -24,6 +24,7 @@ use Rattle.mm_syntax.specs.declared.stmt.ForStart.{ForStart}
 use Rattle.mm_syntax.specs.declared.stmt.ForStart.TheVariants as start
 use Rattle.mm_syntax.specs.declared.stmt.StmtKind.TheVariants as s
 use Rattle.mm_syntax.specs.declared.decl.Param.{Param}
+use Rattle.mm_syntax.specs.declared.decl.Params.{Params}
 use Rattle.mm_syntax.specs.declared.decl.Init.{Init}
 use Rattle.mm_syntax.specs.declared.decl.ConstructorBody.{ConstructorBody}
 use Rattle.mm_syntax.specs.declared.decl.Base.{Base}
@@ -63,7 +64,7 @@ abbrev pub Value : Rule → Type 0
 Value unit = List Decl
 Value decl = Decl
 Value item = Member
-Value params = List Param
+Value params = Params
 Value param = Param
 Value inits = List Init
 Value init = Init
@@ -106,8 +107,8 @@ p ◂ q = give (λ v. v.0) (seq p q)
 -- void | bool | int | unsigned int?
 abbrev pub number_type : P TypeName
 number_type = alt
-  (give b.word_type (token (k.Bool ∷ k.Int ∷ [])))
-  (give (λ v. b.unsigned_type v.0 v.1) (seq (token (k.Unsigned ∷ [])) (opt (token (k.Int ∷ [])))))
+    (give b.word_type (token (k.Bool ∷ k.Int ∷ [])))
+    (give (λ v. b.unsigned_type v.0 v.1) (seq (token (k.Unsigned ∷ [])) (opt (token (k.Int ∷ [])))))
 
 -- K as a type
 abbrev pub class_type : P TypeName
@@ -129,8 +130,8 @@ assigning = k.Assign ∷ k.PlusAssign ∷ k.MinusAssign ∷ k.StarAssign ∷ k.S
 -- ? expr : expr, or an assigning operator and expr
 abbrev pub end : P End
 end = alt
-  (give (λ v. b.chosen v.0 v.1.0 v.1.1) (seq (token (k.Question ∷ [])) (seq (name expr) (token (k.Colon ∷ []) ▸ name expr))))
-  (give (λ v. b.assigned v.0 v.1) (seq (token assigning) (name expr)))
+    (give (λ v. b.chosen v.0 v.1.0 v.1.1) (seq (token (k.Question ∷ [])) (seq (name expr) (token (k.Colon ∷ []) ▸ name expr))))
+    (give (λ v. b.assigned v.0 v.1) (seq (token assigning) (name expr)))
 
 -- what follows the `(` of arguments: args? )
 abbrev pub inside : P (List Expr)
@@ -159,8 +160,8 @@ selected = seq (opt scope) (token (k.Word ∷ []))
 -- what may follow a postfix expression
 abbrev pub suffix : P Suffix
 suffix = alt
-  (give b.called call)
-  (alt
+    (give b.called call)
+    (alt
     (give (λ v. b.member_of v.0 v.1.0 v.1.1) (seq (token (k.Dot ∷ k.Arrow ∷ [])) selected))
     (give b.stepped (token (k.PlusPlus ∷ k.MinusMinus ∷ []))))
 
@@ -193,8 +194,8 @@ mark = give b.mark_of (token (k.Star ∷ k.And ∷ []))
 -- = expr, or ( args )
 abbrev pub initial : P Initializer
 initial = alt
-  (give (λ v. initializer.Value v.tree) (token (k.Assign ∷ []) ▸ name expr))
-  (give (λ xs. initializer.Arguments xs) (token (k.Open ∷ []) ▸ name args ◂ token (k.Close ∷ [])))
+    (give (λ v. initializer.Value v.tree) (token (k.Assign ∷ []) ▸ name expr))
+    (give (λ xs. initializer.Arguments xs) (token (k.Open ∷ []) ▸ name args ◂ token (k.Close ∷ [])))
 
 -- a comma and a declarator
 abbrev pub next_declarator : P Declarator
@@ -211,8 +212,8 @@ simple_stmt = fork (give bs.run expr_stmt) (give bs.declared (name var))
 -- what follows the `(` of `for`: ; or expr ; or var
 abbrev pub for_start : P ForStart
 for_start = alt
-  (give (λ t. start.Nothing) (token (k.Semicolon ∷ [])))
-  (fork (give (λ v. start.Expr v.tree) expr_stmt) (give (λ v. start.Variables v) (name var)))
+    (give (λ t. start.Nothing) (token (k.Semicolon ∷ [])))
+    (fork (give (λ v. start.Expr v.tree) expr_stmt) (give (λ v. start.Variables v) (name var)))
 
 -- else stmt
 abbrev pub otherwise : ℕ → P Stmt
@@ -237,7 +238,16 @@ do_stmt n = give (λ v. bs.done_while v.0 v.1.0 v.1.1) (seq (token (k.Do ∷ [])
 
 abbrev pub for_stmt : ℕ → P Stmt
 for_stmt n = give (λ v. bs.repeated v.0 v.1.0 v.1.1.0 v.1.1.1.0 v.1.1.1.1)
-  (seq (token (k.For ∷ [])) (seq (token (k.Open ∷ []) ▸ for_start) (seq (maybe_expr k.Semicolon) (seq (maybe_expr k.Close) (name (stmt n))))))
+    (seq (token (k.For ∷ [])) (seq (token (k.Open ∷ []) ▸ for_start) (seq (maybe_expr k.Semicolon) (seq (maybe_expr k.Close) (name (stmt n))))))
+
+abbrev pub empty_stmt : P Stmt
+empty_stmt = give (λ t. bs.statement s.Empty t.place) (token (k.Semicolon ∷ []))
+
+abbrev pub break_stmt : P Stmt
+break_stmt = give (λ t. bs.statement s.Break t.place) (token (k.Break ∷ []) ◂ token (k.Semicolon ∷ []))
+
+abbrev pub continue_stmt : P Stmt
+continue_stmt = give (λ t. bs.statement s.Continue t.place) (token (k.Continue ∷ []) ◂ token (k.Semicolon ∷ []))
 
 abbrev pub return_stmt : P Stmt
 return_stmt = give (λ v. bs.returned v.0 v.1) (seq (token (k.Return ∷ [])) (maybe_expr k.Semicolon))
@@ -252,7 +262,7 @@ abbrev pub body : P Stmt
 body = name (block nesting)
 
 -- ( params )
-abbrev pub parameters : P (List Param)
+abbrev pub parameters : P Params
 parameters = token (k.Open ∷ []) ▸ name params ◂ token (k.Close ∷ [])
 
 -- (* | &)? W?
@@ -262,8 +272,8 @@ param_end = give (λ v. bd.param_end v.0 v.1) (seq (opt mark) (opt (token (k.Wor
 -- the same, but not empty
 abbrev pub void_end : P ParamEnd
 void_end = alt
-  (give (λ v. bd.param_end (Some v.0) v.1) (seq mark (opt (token (k.Word ∷ [])))))
-  (give (λ t. bd.param_end None (Some t)) (token (k.Word ∷ [])))
+    (give (λ v. bd.param_end (Some v.0) v.1) (seq mark (opt (token (k.Word ∷ [])))))
+    (give (λ t. bd.param_end None (Some t)) (token (k.Word ∷ [])))
 
 abbrev pub void_type : P TypeName
 void_type = give b.word_type (token (k.Void ∷ []))
@@ -271,8 +281,8 @@ void_type = give b.word_type (token (k.Void ∷ []))
 -- a parameter that doesn't begin with `void`
 abbrev pub other_param : P Param
 other_param = alt
-  (give (λ v. bd.param (Some v.0) v.1.0 v.1.1) (seq (token (k.Virtual ∷ [])) (seq (name type_name) param_end)))
-  (give (λ v. bd.param None v.0 v.1) (seq (alt number_type class_type) param_end))
+    (give (λ v. bd.param (Some v.0) v.1.0 v.1.1) (seq (token (k.Virtual ∷ [])) (seq (name type_name) param_end)))
+    (give (λ v. bd.param None v.0 v.1) (seq (alt number_type class_type) param_end))
 
 -- (, param)*
 abbrev pub more_params : P (List Param)
@@ -282,6 +292,12 @@ more_params = many (token (k.Comma ∷ []) ▸ name param)
 abbrev pub after_void : P (Option (ParamEnd × List Param))
 after_void = opt (seq void_end more_params)
 
+-- params, but not nothing
+abbrev pub some_params : P Params
+some_params = alt
+    (give (λ v. bd.after_void v.0 v.1) (seq void_type after_void))
+    (give (λ v. bd.params_of (v.0 ∷ v.1)) (seq other_param more_params))
+
 -- ; or block
 abbrev pub function_body : P (Option Stmt)
 function_body = alt (give (λ t. None) (token (k.Semicolon ∷ []))) (give (λ v. Some v) body)
@@ -289,8 +305,8 @@ function_body = alt (give (λ t. None) (token (k.Semicolon ∷ []))) (give (λ v
 -- what follows the mark of a function: W ( params ) (; | block), or K :: W ( params ) block
 abbrev pub function_end : P FunctionEnd
 function_end = alt
-  (give (λ v. end_of.Plain (b.name_of v.0) v.1.0 v.1.1) (seq (token (k.Word ∷ [])) (seq parameters function_body)))
-  (give (λ v. end_of.Member (b.name_of v.0) (b.name_of v.1.0) v.1.1.0 v.1.1.1) (seq scope (seq (token (k.Word ∷ [])) (seq parameters body))))
+    (give (λ v. end_of.Plain (b.name_of v.0) v.1.0 v.1.1) (seq (token (k.Word ∷ [])) (seq parameters function_body)))
+    (give (λ v. end_of.Member (b.name_of v.0) (b.name_of v.1.0) v.1.1.0 v.1.1.1) (seq scope (seq (token (k.Word ∷ [])) (seq parameters body))))
 
 -- what follows the type of a function
 abbrev pub after_type : P Declared
@@ -315,8 +331,8 @@ accesses = k.Public ∷ k.Protected ∷ k.Private ∷ []
 -- K, virtual access? K, or access virtual? K
 abbrev pub base : P Base
 base = alt
-  (give (λ t. bd.base None None t) (token (k.Class ∷ [])))
-  (alt
+    (give (λ t. bd.base None None t) (token (k.Class ∷ [])))
+    (alt
     (give (λ v. bd.base (Some v.0) v.1.0 v.1.1) (seq (token (k.Virtual ∷ [])) (seq (opt (token accesses)) (token (k.Class ∷ [])))))
     (give (λ v. bd.base v.1.0 (Some v.0) v.1.1) (seq (token accesses) (seq (opt (token (k.Virtual ∷ []))) (token (k.Class ∷ []))))))
 
@@ -340,7 +356,7 @@ abbrev pub method_body : P Stmt
 method_body = body ◂ opt (token (k.Semicolon ∷ []))
 
 -- ( params ) (; | block ;?)
-abbrev pub method_end : P (List Param × Option Stmt)
+abbrev pub method_end : P (Params × Option Stmt)
 method_end = seq parameters (alt (give (λ t. None) (token (k.Semicolon ∷ []))) (give (λ v. Some v) method_body))
 
 -- , (* | &)? W
@@ -350,8 +366,8 @@ next_field = give (λ v. bd.field_name v.0 v.1) (token (k.Comma ∷ []) ▸ seq 
 -- what follows the name of a member function, or of a field
 abbrev pub member_end : P MemberEnd
 member_end = alt
-  (give (λ v. member_is.Function v.0 v.1) method_end)
-  (give (λ v. member_is.Fields v) (many next_field ◂ token (k.Semicolon ∷ [])))
+    (give (λ v. member_is.Function v.0 v.1) method_end)
+    (give (λ v. member_is.Fields v) (many next_field ◂ token (k.Semicolon ∷ [])))
 
 -- what follows the type of a member
 abbrev pub member_tail : P MemberTail
@@ -364,18 +380,18 @@ method_tail = give (λ v. bd.method_tail v.0 v.1.0 v.1.1.0 v.1.1.1) (seq (opt ma
 -- ~ K ( void? ) { } ;?
 abbrev pub destructor : P DestructorTail
 destructor = give (λ v. bd.destructor_tail v.0 v.1.0 v.1.1)
-  (seq (token (k.Tilde ∷ [])) (seq (token (k.Class ∷ [])) (token (k.Open ∷ []) ▸ opt (token (k.Void ∷ [])) ◂ token (k.Close ∷ []) ◂ token (k.OpenBrace ∷ []) ◂ token (k.CloseBrace ∷ []) ◂ opt (token (k.Semicolon ∷ [])))))
+    (seq (token (k.Tilde ∷ [])) (seq (token (k.Class ∷ [])) (token (k.Open ∷ []) ▸ opt (token (k.Void ∷ [])) ◂ token (k.Close ∷ []) ◂ token (k.OpenBrace ∷ []) ◂ token (k.CloseBrace ∷ []) ◂ opt (token (k.Semicolon ∷ [])))))
 
 -- what follows `virtual`
 abbrev pub after_virtual : P AfterVirtual
 after_virtual = alt
-  (give (λ v. virtual_is.Destructor v) destructor)
-  (give (λ v. virtual_is.Method v.0 v.1) (seq (name type_name) method_tail))
+    (give (λ v. virtual_is.Destructor v) destructor)
+    (give (λ v. virtual_is.Method v.0 v.1) (seq (name type_name) method_tail))
 
 -- what follows K in a declaration of its constructor: ( params ) (; | inits? block ;?)
 abbrev pub constructor_tail : P ConstructorTail
 constructor_tail = give (λ v. bd.constructor_tail v.0 v.1)
-  (seq parameters (alt (give (λ t. None) (token (k.Semicolon ∷ []))) (give (λ v. Some v) (constructor_body ◂ opt (token (k.Semicolon ∷ []))))))
+    (seq parameters (alt (give (λ t. None) (token (k.Semicolon ∷ []))) (give (λ v. Some v) (constructor_body ◂ opt (token (k.Semicolon ∷ []))))))
 
 -- what follows K at the start of a member
 abbrev pub after_member_class : P AfterMemberClass
@@ -388,25 +404,23 @@ rule_of unit = many (name decl)
 -- classdecl, classdef, fndecl, fndef and memberdef. The first two begin alike, and so do the others, with a type;
 -- where that is K, a constructor begins alike too.
 rule_of decl = alt
-  (give (λ v. bd.class_decl v.0 v.1.0 v.1.1.0 v.1.1.1) (kept class_head ◂ token (k.Semicolon ∷ [])))
-  (alt
+    (give (λ v. bd.class_decl v.0 v.1.0 v.1.1.0 v.1.1.1) (kept class_head ◂ token (k.Semicolon ∷ [])))
+    (alt
     (give (λ v. bd.typed v.0 v.1) (seq (alt void_type number_type) after_type))
     (give (λ v. bd.after v.0 v.1) (seq (token (k.Class ∷ [])) after_class_name)))
 -- access `:`, fields, memberfn, destructor and constructor. Fields and functions begin alike, with a type; where
 -- that is K, a constructor begins alike too; and `virtual` begins a function or a destructor.
 rule_of item = alt
-  (give (λ t. m.Access (bd.access_of t)) (token accesses ◂ token (k.Colon ∷ [])))
-  (alt
+    (give (λ t. m.Access (bd.access_of t)) (token accesses ◂ token (k.Colon ∷ [])))
+    (alt
     (give (λ v. bd.virtual_member v.0 v.1) (seq (token (k.Virtual ∷ [])) after_virtual))
     (alt
-      (give bd.destructor destructor)
-      (alt
-        (give (λ v. bd.typed_member v.0 v.1) (seq (alt void_type number_type) member_tail))
-        (give (λ v. bd.after_in_class v.0 v.1) (seq (token (k.Class ∷ [])) after_member_class)))))
+    (give bd.destructor destructor)
+    (alt
+    (give (λ v. bd.typed_member v.0 v.1) (seq (alt void_type number_type) member_tail))
+    (give (λ v. bd.after_in_class v.0 v.1) (seq (token (k.Class ∷ [])) after_member_class)))))
 -- `void` stands alone, or begins the first parameter.
-rule_of params = give b.listed (opt (alt
-  (give (λ v. bd.after_void v.0 v.1) (seq void_type after_void))
-  (give (λ v. v.0 ∷ v.1) (seq other_param more_params))))
+rule_of params = give bd.given_params (opt some_params)
 rule_of param = alt (give (λ v. bd.param None v.0 v.1) (seq void_type void_end)) other_param
 rule_of inits = give (λ v. v.0 ∷ v.1) (token (k.Colon ∷ []) ▸ seq (name init) (many (token (k.Comma ∷ []) ▸ name init)))
 rule_of init = give (λ v. bd.init v.0 v.1) (seq (token (k.Word ∷ k.Class ∷ [])) call)
@@ -414,24 +428,24 @@ rule_of (block n) = give (λ v. bs.block v.0 v.1) (seq (token (k.OpenBrace ∷ [
 -- No token begins a statement that stands in too many.
 rule_of (stmt zero) = give (λ t. bs.statement s.Empty t.place) (token [])
 rule_of (stmt (suc n)) = alt
-  (name (block n))
-  (alt
-    (give (λ t. bs.statement s.Empty t.place) (token (k.Semicolon ∷ [])))
+    (name (block n))
     (alt
-      simple_stmt
-      (alt
-        (if_stmt n)
-        (alt
-          (while_stmt n)
-          (alt
-            (do_stmt n)
-            (alt
-              (for_stmt n)
-              (alt
-                (give (λ t. bs.statement s.Break t.place) (token (k.Break ∷ []) ◂ token (k.Semicolon ∷ [])))
-                (alt
-                  (give (λ t. bs.statement s.Continue t.place) (token (k.Continue ∷ []) ◂ token (k.Semicolon ∷ [])))
-                  return_stmt))))))))
+    empty_stmt
+    (alt
+    simple_stmt
+    (alt
+    (if_stmt n)
+    (alt
+    (while_stmt n)
+    (alt
+    (do_stmt n)
+    (alt
+    (for_stmt n)
+    (alt
+    break_stmt
+    (alt
+    continue_stmt
+    return_stmt))))))))
 rule_of var = give (λ v. bs.variables v.0 (v.1.0 ∷ v.1.1)) (seq (name type_name) (seq (name declarator) (many next_declarator ◂ token (k.Semicolon ∷ []))))
 rule_of declarator = give (λ v. bs.declarator v.0 v.1.0 v.1.1) (seq (opt mark) (seq (token (k.Word ∷ [])) (opt initial)))
 rule_of type_name = alt void_type (alt number_type class_type)
@@ -445,18 +459,18 @@ rule_of rel = chain (name add) (k.Less ∷ k.Greater ∷ k.LessEqual ∷ k.Great
 rule_of add = chain (name mul) (k.Plus ∷ k.Minus ∷ [])
 rule_of mul = chain (name unary) (k.Star ∷ k.Slash ∷ k.Percent ∷ [])
 rule_of unary = alt
-  (give (λ v. b.prefixed v.0 v.1) (seq (token prefixes) (name unary)))
-  (alt
+    (give (λ v. b.prefixed v.0 v.1) (seq (token prefixes) (name unary)))
+    (alt
     (give (λ v. b.begun v.1 v.0.place) (seq (token (k.New ∷ [])) after_new))
     (name postfix))
 rule_of postfix = give (λ v. b.suffixed v.0 v.1) (seq (name primary) (many suffix))
 rule_of primary = alt
-  (give b.leaf (token leaves))
-  (alt
+    (give b.leaf (token leaves))
+    (alt
     (give (λ v. b.enclosed v.0 v.1) (seq (token (k.Open ∷ [])) (name expr ◂ token (k.Close ∷ []))))
     (alt
-      scoped
-      (give (λ v. b.cast v.0 v.1.0 v.1.1) (seq (token (k.DynamicCast ∷ [])) cast_to))))
+    scoped
+    (give (λ v. b.cast v.0 v.1.0 v.1.1) (seq (token (k.DynamicCast ∷ [])) cast_to))))
 
 -- The grammar. Its tokens are of the classes that their symbols number.
 abbrev pub units : Language

@@ -17,13 +17,21 @@ pub struct Param {
     pub name: Option<Name>,
 }
 
-/// A function's result, name and parameters. `void` alone is no parameter.
+/// What stands in the parentheses of a function.
+#[derive(Drop)]
+pub struct Params {
+    /// Whether `void` stands there alone. It is no parameter.
+    pub has_void: bool,
+    pub list: Items<Param>,
+}
+
+/// A function's result, name and parameters.
 #[derive(Drop)]
 pub struct Head {
     pub type_name: TypeName,
     pub mark: Option<DeclaratorMark>,
     pub name: Name,
-    pub params: Items<Param>,
+    pub params: Params,
 }
 
 /// An initializer of a constructor: the name of a field or a base, and the arguments.
@@ -55,13 +63,13 @@ pub enum FnDeclKind {
     /// Of a member function, outside its class, which is named first.
     MemberDefinition(Name, Head, Stmt),
     /// Of a constructor, outside its class: the class, its name again, the parameters and the rest.
-    ConstructorDefinition(Name, Name, Items<Param>, ConstructorBody),
+    ConstructorDefinition(Name, Name, Params, ConstructorBody),
     /// In a class: where `virtual` stands, the head, and the body where there is one.
     Method(Option<Place>, Head, Option<Stmt>),
     /// In a class: where `virtual` stands, the class's name, and whether `void` stands in the parentheses.
     Destructor(Option<Place>, Name, bool),
     /// In a class: the class's name, the parameters, and the rest where it is defined there.
-    Constructor(Name, Items<Param>, Option<ConstructorBody>),
+    Constructor(Name, Params, Option<ConstructorBody>),
 }
 
 /// A direct base of a class.

@@ -1,6 +1,6 @@
 // What the parts of rules give before a tree is whole.
 
-use crate::decl::{Base, ConstructorBody, FieldName, Member, Param};
+use crate::decl::{Base, ConstructorBody, FieldName, Member, Params};
 use crate::expr::{Expr, TypeName};
 use crate::name::{AssignOperator, DeclaratorMark, MemberOperator, Name, StepOperator};
 use crate::stmt::Stmt;
@@ -41,9 +41,9 @@ pub struct ParamEnd {
 /// What follows the mark of a function that is declared outside classes.
 #[derive(Drop)]
 pub enum FunctionEnd {
-    Plain(Name, Items<Param>, Option<Stmt>),
+    Plain(Name, Params, Option<Stmt>),
     /// The class first.
-    Member(Name, Name, Items<Param>, Stmt),
+    Member(Name, Name, Params, Stmt),
 }
 
 /// What follows the type of a function that is declared outside classes.
@@ -59,7 +59,7 @@ pub enum AfterClass {
     /// The class is a type.
     Type(Declared),
     /// A constructor's name, parameters and body.
-    Constructor(Name, Items<Param>, ConstructorBody),
+    Constructor(Name, Params, ConstructorBody),
 }
 
 /// What follows a class's name in its definition.
@@ -72,7 +72,7 @@ pub struct ClassBody {
 /// What follows the name of a member that begins with a type.
 #[derive(Drop)]
 pub enum MemberEnd {
-    Function(Items<Param>, Option<Stmt>),
+    Function(Params, Option<Stmt>),
     /// Further fields.
     Fields(Items<FieldName>),
 }
@@ -90,7 +90,7 @@ pub struct MemberTail {
 pub struct MethodTail {
     pub mark: Option<DeclaratorMark>,
     pub name: Name,
-    pub params: Items<Param>,
+    pub params: Params,
     pub body: Option<Stmt>,
 }
 
@@ -112,7 +112,7 @@ pub enum AfterVirtual {
 /// What follows the name of a constructor in its class.
 #[derive(Drop)]
 pub struct ConstructorTail {
-    pub params: Items<Param>,
+    pub params: Params,
     pub body: Option<ConstructorBody>,
 }
 
