@@ -74,10 +74,7 @@ impl<'a> Cursor<'a> {
         ensures { result ≡ tokens.now }
     {
         let next = number_at(tokens);
-        Cursor {
-            rest: tokens,
-            next,
-        }
+        Cursor { rest: tokens, next }
     }
 
     /// The tokens that are left.
