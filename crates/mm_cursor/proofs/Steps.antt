@@ -70,11 +70,15 @@ ok_is q ts r v w h a = subst (λ x. Reads units q ts x r) (sym h) a
 
 -- ---- tokens
 
-pub ate : (symbols : List Symbol) (ts r : List Token) (t : Bor Token) → Eats symbols ts (Some t) r → Reads units (token symbols) ts t.now r
-ate symbols ts r t h = subst (λ us. Reads units (token symbols) us t.now r) (sym h.0) (one_ok units ahead fit (map number_of symbols) t.now r h.1)
+-- This token was taken, which is one of these.
+abbrev pub Took : List Symbol → List Token → Token → List Token → Type 0
+Took symbols ts t rest = (ts ≡ t ∷ rest) × IsTrue (has (number_of (symbol_of t)) (map number_of symbols))
 
-pub eats_some : (symbols : List Symbol) (ts r : List Token) (o : Option (Bor Token)) → true ≡ is_some o → Eats symbols ts o r → (t : Bor Token) × Eats symbols ts (Some t) r
-eats_some symbols ts r (Some t) h i = (t, i)
+pub ate : (symbols : List Symbol) (ts r : List Token) (t : Token) → Took symbols ts t r → Reads units (token symbols) ts t r
+ate symbols ts r t h = subst (λ us. Reads units (token symbols) us t r) (sym h.0) (one_ok units ahead fit (map number_of symbols) t r h.1)
+
+pub eats_some : (symbols : List Symbol) (ts r : List Token) (o : Option (Bor Token)) → true ≡ is_some o → Eats symbols ts o r → (t : Token) × Took symbols ts t r
+eats_some symbols ts r (Some t) h i = (t.now, i)
 eats_some symbols ts r None h i = absurd (cc)
 
 pub eats_none : (symbols : List Symbol) (ts r : List Token) (o : Option (Bor Token)) → false ≡ is_some o → Eats symbols ts o r → Eats symbols ts None r
@@ -82,19 +86,19 @@ eats_none symbols ts r (Some t) h i = absurd (cc)
 eats_none symbols ts r None h i = i
 
 -- a token that was taken begins nothing that begins otherwise
-pub other : (symbols : List Symbol) (cs : List ℕ) → IsTrue (disjoint (map number_of symbols) cs) → (ts r : List Token) (t : Bor Token) → Eats symbols ts (Some t) r → Avoids units cs ts
+pub other : (symbols : List Symbol) (cs : List ℕ) → IsTrue (disjoint (map number_of symbols) cs) → (ts r : List Token) (t : Token) → Took symbols ts t r → Avoids units cs ts
 other symbols cs d ts r t h x s i j =
-    let i' : t.now ∷ r ≡ x ∷ s = sym h.0 ∙ i in
-    let same : x ≡ t.now = cc in
-    apart (number_of (symbol_of t.now)) (map number_of symbols) cs d h.1 (subst (λ w. IsTrue (has (number_of (symbol_of w)) cs)) same j)
+    let i' : t ∷ r ≡ x ∷ s = sym h.0 ∙ i in
+    let same : x ≡ t = cc in
+    apart (number_of (symbol_of t)) (map number_of symbols) cs d h.1 (subst (λ w. IsTrue (has (number_of (symbol_of w)) cs)) same j)
 
 -- where neither of two sets of tokens stands, none of both does
 pub avoid_both : (symbols others : List Symbol) (ts us r : List Token) → Eats symbols ts None us → Eats others us None r → Avoids units (map number_of symbols ++ map number_of others) ts
 avoid_both symbols others ts us r h i x s e j = elim (has-split (number_of (symbol_of x)) (map number_of symbols) (map number_of others) j)
     [ inl a ↦ h.1 x s e a | inr a ↦ i.1 x s (h.0 ∙ e) a ]
 
-taken_shorter : (symbols : List Symbol) (ts us r : List Token) (t : Bor Token) → Eats symbols ts (Some t) us → length r ≤ length us → length r < length ts
-taken_shorter symbols ts us r t h n = let l : length ts ≡ length (t.now ∷ us) = ap length h.0 in omega arith
+pub taken_shorter : (symbols : List Symbol) (ts us r : List Token) (t : Token) → Took symbols ts t us → length r ≤ length us → length r < length ts
+taken_shorter symbols ts us r t h n = let l : length ts ≡ length (t ∷ us) = ap length h.0 in omega arith
 
 -- ---- parts
 
@@ -144,19 +148,19 @@ some p g n ts r v a = opt_read units ahead fit p (good (opt p) g) n ts r v a
 pub none : {A : Type 0} → (p : P A) (symbols : List Symbol) → IsTrue (is_plain (opt p)) → first_of units ahead p ≡ map number_of symbols → (ts us : List Token) → Eats symbols ts None us → Reads units (opt p) ts None us
 none p symbols g f ts us h = subst (λ w. Reads units (opt p) ts None w) (sym h.0) (opt_none units ahead fit p (good (opt p) g) ts (λ k r e i. h.1 k r e (subst (λ cs. IsTrue (has (number_of (symbol_of k)) cs)) f i)))
 
-pub some_fails : {A : Type 0} → (p : P A) (symbols : List Symbol) → IsTrue (is_plain (opt p)) → IsTrue (within (map number_of symbols) (first_of units ahead p)) → (ts us r : List Token) (t : Bor Token) → Eats symbols ts (Some t) us → length r ≤ length us →
+pub some_fails : {A : Type 0} → (p : P A) (symbols : List Symbol) → IsTrue (is_plain (opt p)) → IsTrue (within (map number_of symbols) (first_of units ahead p)) → (ts us r : List Token) (t : Token) → Took symbols ts t us → length r ≤ length us →
     Fails units p ts r → Fails units (opt p) ts r
 some_fails p symbols g w ts us r t h n a =
-    opt_fail units ahead fit p (good (opt p) g) ts r (t.now, us, h.0, has-within (number_of (symbol_of t.now)) (map number_of symbols) (first_of units ahead p) w h.1) (taken_shorter symbols ts us r t h n) a
+    opt_fail units ahead fit p (good (opt p) g) ts r (t, us, h.0, has-within (number_of (symbol_of t)) (map number_of symbols) (first_of units ahead p) w h.1) (taken_shorter symbols ts us r t h n) a
 
 -- ---- one of two, by the first token
 
-pub first_reads : {A : Type 0} → (p q : P A) (symbols : List Symbol) → IsTrue (is_plain (alt p q)) → IsTrue (within (map number_of symbols) (first_of units ahead p)) → (ts us r : List Token) (t : Bor Token) (v : A) → Eats symbols ts (Some t) us → Reads units p ts v r → Reads units (alt p q) ts v r
-first_reads p q symbols g w ts us r t v h a = alt_first_ok units ahead fit p q (good (alt p q) g) ts r v (t.now, us, h.0, has-within (number_of (symbol_of t.now)) (map number_of symbols) (first_of units ahead p) w h.1) a
+pub first_reads : {A : Type 0} → (p q : P A) (symbols : List Symbol) → IsTrue (is_plain (alt p q)) → IsTrue (within (map number_of symbols) (first_of units ahead p)) → (ts us r : List Token) (t : Token) (v : A) → Took symbols ts t us → Reads units p ts v r → Reads units (alt p q) ts v r
+first_reads p q symbols g w ts us r t v h a = alt_first_ok units ahead fit p q (good (alt p q) g) ts r v (t, us, h.0, has-within (number_of (symbol_of t)) (map number_of symbols) (first_of units ahead p) w h.1) a
 
-pub first_one_fails : {A : Type 0} → (p q : P A) (symbols : List Symbol) → IsTrue (is_plain (alt p q)) → IsTrue (within (map number_of symbols) (first_of units ahead p)) → (ts us r : List Token) (t : Bor Token) → Eats symbols ts (Some t) us → length r ≤ length us → Fails units p ts r → Fails units (alt p q) ts r
+pub first_one_fails : {A : Type 0} → (p q : P A) (symbols : List Symbol) → IsTrue (is_plain (alt p q)) → IsTrue (within (map number_of symbols) (first_of units ahead p)) → (ts us r : List Token) (t : Token) → Took symbols ts t us → length r ≤ length us → Fails units p ts r → Fails units (alt p q) ts r
 first_one_fails p q symbols g w ts us r t h n a =
-    alt_first_fail units ahead fit p q (good (alt p q) g) ts r (t.now, us, h.0, has-within (number_of (symbol_of t.now)) (map number_of symbols) (first_of units ahead p) w h.1) (inr (taken_shorter symbols ts us r t h n)) a
+    alt_first_fail units ahead fit p q (good (alt p q) g) ts r (t, us, h.0, has-within (number_of (symbol_of t)) (map number_of symbols) (first_of units ahead p) w h.1) (inr (taken_shorter symbols ts us r t h n)) a
 
 pub second_reads : {A : Type 0} → (p q : P A) (symbols : List Symbol) → IsTrue (is_plain (alt p q)) → first_of units ahead p ≡ map number_of symbols → (ts us r : List Token) (v : A) → Eats symbols ts None us → Reads units q us v r → Reads units (alt p q) ts v r
 second_reads p q symbols g f ts us r v h a = alt_second_ok units ahead fit p q (good (alt p q) g) ts r v (λ k s i j. h.1 k s i (subst (λ cs. IsTrue (has (number_of (symbol_of k)) cs)) f j)) (subst (λ w. Reads units q w v r) h.0 a)
