@@ -7,3 +7,4 @@ pub mod name;
 pub mod part;
 pub mod stmt;
 pub mod symbol;
+pub mod taken;
