@@ -8,3 +8,4 @@ pub mod part;
 pub mod stmt;
 pub mod symbol;
 pub mod taken;
+pub mod walk;
