@@ -1,5 +1,6 @@
 -- The forms of trees, by which a unit's parts are built one after another. Own.
 use Rattle.std.specs.Prelude.{◌≡◌, ℕ, Bool, true, false, ◌&&◌, not, if◌then◌else◌, List, [], ◌∷◌, ◌++◌, map, Option, Some, None, codes, ◌==◌}
+use Rattle.std.specs.List.{flat_map}
 use Rattle.std.specs.Str.{bytes_eq}
 use Rattle.mm_base.specs.declared.place.Place.{Place}
 use Rattle.mm_syntax.specs.Numbers.{is_unsigned}
@@ -127,8 +128,8 @@ abbrev pub sum_built : BinaryOperator → Built → Built → Built
 sum_built op a b = where_ (is_plus op && (is_sum a && is_number b)) built.Sum
 
 abbrev pub call_built : Built → List Shown → Built
-call_built called (x ∷ []) = where_ (is_callee called && is_sum x.built) built.Call
-call_built called _ = built.Nothing
+call_built first (x ∷ []) = where_ (is_callee first && is_sum x.built) built.Call
+call_built first _ = built.Nothing
 
 abbrev pub run_built : Built → Built
 run_built built.Call = built.Statement
@@ -160,6 +161,12 @@ abbrev pub make_form : List Shown → Form
 make_form [] = form.Object
 make_form (x ∷ xs) = form.Construct
 
+abbrev pub made_shown : Place → List Shown → Shown
+made_shown place xs = of_form (make_form xs) place xs
+
+abbrev pub call_shown : Place → Shown → List Shown → Shown
+call_shown place x xs = plain (call_built x.built xs) place (x ∷ xs)
+
 abbrev pub expr_shown : ExprKind-F (Place → Shown) Shown → Place → Shown
 expr_shown (ExprKind-F.Number n) place = plain (number_built n) place []
 expr_shown ExprKind-F.True place = plain built.Nothing place []
@@ -174,8 +181,8 @@ expr_shown (ExprKind-F.Binary a op at b) place = plain (sum_built op a.built b.b
 expr_shown (ExprKind-F.Choose a at b c) place = plain built.Nothing place (a ∷ b ∷ c ∷ [])
 expr_shown (ExprKind-F.Assign a op at b) place = plain built.Nothing place (a ∷ b ∷ [])
 expr_shown (ExprKind-F.New class) place = of_form form.Object place []
-expr_shown (ExprKind-F.Make class xs) place = of_form (make_form xs) place xs
-expr_shown (ExprKind-F.Call x xs) place = plain (call_built x.built xs) place (x ∷ xs)
+expr_shown (ExprKind-F.Make class xs) place = made_shown place xs
+expr_shown (ExprKind-F.Call x xs) place = call_shown place x xs
 expr_shown (ExprKind-F.Member x op at class word) place = of_form form.Object place (x ∷ [])
 
 abbrev pub shown_expr : Expr → Shown
@@ -208,12 +215,8 @@ initial_shown place (initializer.Arguments xs) = of_form form.Construct place (m
 abbrev pub declarator_shown : Declarator → List Shown
 declarator_shown x = initial_shown (mark_or x.mark x.name.place) x.initializer
 
-abbrev pub declarators_shown : List Declarator → List Shown
-declarators_shown [] = []
-declarators_shown (x ∷ xs) = declarator_shown x ++ declarators_shown xs
-
 abbrev pub variables_shown : Variables → List Shown
-variables_shown x = shown_type x.type_name ∷ declarators_shown x.names
+variables_shown x = shown_type x.type_name ∷ flat_map declarator_shown x.names
 
 abbrev pub start_shown : ForStart → List Shown
 start_shown start.Nothing = []
@@ -269,12 +272,11 @@ is_main x = is_type (shown_type x.type_name).built && (is_absent x.mark && (byte
 abbrev pub function_built : Head → Built → Built
 function_built x body = where_ (is_main x && is_block body) built.Function
 
-abbrev pub inits_shown : List Init → List Shown
-inits_shown [] = []
-inits_shown (x ∷ xs) = map shown_expr x.arguments ++ inits_shown xs
+abbrev pub init_shown : Init → List Shown
+init_shown x = map shown_expr x.arguments
 
 abbrev pub body_shown : ConstructorBody → List Shown
-body_shown x = inits_shown x.inits ++ shown_stmt x.block ∷ []
+body_shown x = flat_map init_shown x.inits ++ shown_stmt x.block ∷ []
 
 abbrev pub maybe_body : Option ConstructorBody → List Shown
 maybe_body None = []
@@ -307,13 +309,9 @@ member_shown (m.Access access) = []
 member_shown (m.Fields x names) = shown_type x ∷ []
 member_shown (m.Function x) = shown_fn x ∷ []
 
-abbrev pub members_shown : List Member → List Shown
-members_shown [] = []
-members_shown (x ∷ xs) = member_shown x ++ members_shown xs
-
 abbrev pub class_shown : ClassDeclKind → Place → Shown
 class_shown (c.Declaration word class) place = of_form form.Object place []
-class_shown (c.Definition word class bases members text) place = of_form form.Object place (members_shown members)
+class_shown (c.Definition word class bases members text) place = of_form form.Object place (flat_map member_shown members)
 
 abbrev pub shown_class : ClassDecl → Shown
 shown_class x = class_shown x.kind x.place

@@ -1,7 +1,10 @@
 -- What a walk for the first tree of a form carries. Own.
-use Rattle.std.specs.Prelude.{◌≡◌, Bool, true, false, ◌&&◌, if◌then◌else◌, ◌==◌, List, [], ◌∷◌, Option, Some, None}
+use Rattle.std.specs.Prelude.{◌≡◌, Bool, true, false, ◌&&◌, if◌then◌else◌, ◌==◌, List, [], ◌∷◌, ◌++◌, Option, Some, None}
 use Rattle.mm_base.specs.declared.place.Place.{Place}
 use Rattle.mm_syntax.specs.declared.walk.Form.{Form}
+use Rattle.mm_syntax.specs.declared.walk.Form.TheVariants as form
+use Rattle.mm_syntax.specs.declared.name.UnaryOperator.{UnaryOperator}
+use Rattle.mm_syntax.specs.declared.name.UnaryOperator.TheVariants as unary
 use Rattle.mm_syntax.specs.declared.walk.Built.{Built}
 use Rattle.mm_syntax.specs.declared.walk.Built.TheVariants as built
 use Rattle.mm_syntax.specs.declared.walk.Seen.{Seen}
@@ -43,3 +46,12 @@ formed wanted own place i = record { first = if form_number own == form_number w
 -- any other tree
 abbrev pub plainly : Form → Built → Place → Inside → Seen
 plainly wanted own place i = record { first = or_else (first_of wanted (scalar_mark own place i.all_built)) i.first; built = own }
+
+abbrev pub unary_seen : Form → UnaryOperator → Place → Inside → Seen
+unary_seen wanted unary.Indirection place i = formed wanted form.Object place i
+unary_seen wanted unary.AddressOf place i = formed wanted form.Object place i
+unary_seen wanted _ place i = plainly wanted built.Nothing place i
+
+-- after these trees, with what was seen before them
+abbrev pub Adds : Form → Inside → List Shown → Inside → Type 0
+Adds wanted before ys result = (xs : List Shown) → before ≡ inside wanted xs → result ≡ inside wanted (xs ++ ys)
