@@ -6,3 +6,5 @@ pub mod BuiltDeclarations
 pub mod Rules
 pub mod Forms
 pub mod Walk
+pub mod Limits
+pub mod Laws
