@@ -11,7 +11,7 @@ use Rattle.mm_syntax.specs.declared.walk.Built.{Built}
 use Rattle.mm_syntax.specs.declared.walk.Built.TheVariants.{Nothing, Call}
 use Rattle.mm_syntax.specs.declared.walk.Seen.{Seen}
 use Rattle.mm_syntax.specs.declared.walk.Inside.{Inside}
-use Rattle.mm_syntax.specs.Forms.{Shown, Mark, first_of, form_number, marks_of, all_built, all_statements, is_built, is_statement, scalar_mark, plain, of_form, where_, is_callee, is_sum, call_shown, made_shown, shown_expr}
+use Rattle.mm_syntax.specs.Forms.{Shown, Mark, first_of, form_number, marks_of, all_built, all_statements, is_built, is_statement, scalar_mark, plain, of_form, only_if, is_callee, is_sum, call_shown, made_shown, shown_expr}
 use Rattle.mm_syntax.specs.Walk.{seen, inside, or_else, next, no_tree, one_tree, two_trees, three_trees, formed, plainly, Adds}
 
 or_else_none : (a : Option Place) → or_else a None ≡ a
@@ -69,9 +69,6 @@ inside_three wanted a b c = inside-push wanted (a ∷ (b ∷ [])) c ∙ ap (λ i
 pub seen_plain : (wanted : Form) (own : Built) (place : Place) (xs : List Shown) → seen wanted (plain own place xs) ≡ plainly wanted own place (inside wanted xs)
 seen_plain wanted own place xs i = record { first = first-append wanted (scalar_mark own place (all_built xs)) (marks_of xs) i; built = own }
 
-pub seen_form : (wanted own : Form) (place : Place) (xs : List Shown) → seen wanted (of_form own place xs) ≡ formed wanted own place (inside wanted xs)
-seen_form wanted own place xs = refl
-
 -- ---- the same, from what a walk has
 
 pub plainly_two : (wanted : Form) (own : Built) (place : Place) (a b : Shown) → plainly wanted own place (two_trees (seen wanted a) (seen wanted b)) ≡ seen wanted (plain own place (a ∷ (b ∷ [])))
@@ -89,22 +86,13 @@ formed_all wanted own place i xs e = ap (formed wanted own place) e
 -- ---- calls
 
 pub call_one : (wanted : Form) (place : Place) (callee argument : Seen) (x y : Shown) → callee ≡ seen wanted x → argument ≡ seen wanted y →
-    plainly wanted (where_ (is_callee callee.built && is_sum argument.built) Call) place (two_trees callee argument) ≡ seen wanted (call_shown place x (y ∷ []))
+    plainly wanted (only_if (is_callee callee.built && is_sum argument.built) Call) place (two_trees callee argument) ≡ seen wanted (call_shown place x (y ∷ []))
 call_one wanted place callee argument x y e h =
-    ap (λ s. plainly wanted (where_ (is_callee s.built && is_sum argument.built) Call) place (two_trees s argument)) e
-    ∙ (ap (λ s. plainly wanted (where_ (is_callee x.built && is_sum s.built) Call) place (two_trees (seen wanted x) s)) h
-    ∙ plainly_two wanted (where_ (is_callee x.built && is_sum y.built) Call) place x y)
+    ap (λ s. plainly wanted (only_if (is_callee s.built && is_sum argument.built) Call) place (two_trees s argument)) e
+    ∙ (ap (λ s. plainly wanted (only_if (is_callee x.built && is_sum s.built) Call) place (two_trees (seen wanted x) s)) h
+    ∙ plainly_two wanted (only_if (is_callee x.built && is_sum y.built) Call) place x y)
 
--- Of several arguments, or of none, no call is a first text's.
-pub call_many : (wanted : Form) (place : Place) (i : Inside) (x : Shown) (ys : List Shown) → (length ys ≡ 1 → ⊥) → i ≡ inside wanted (x ∷ ys) →
-    plainly wanted Nothing place i ≡ seen wanted (call_shown place x ys)
-call_many wanted place i x [] n e = plainly_all wanted Nothing place i (x ∷ []) e
-call_many wanted place i x (y ∷ []) n e = absurd (n refl)
-call_many wanted place i x (y ∷ (z ∷ ys)) n e = plainly_all wanted Nothing place i (x ∷ (y ∷ (z ∷ ys))) e
-
-pub made_many : (wanted : Form) (place : Place) (i : Inside) (ys : List Shown) → (ys ≡ [] → ⊥) → i ≡ inside wanted ys → formed wanted Construct place i ≡ seen wanted (made_shown place ys)
-made_many wanted place i [] n e = absurd (n refl)
-made_many wanted place i (y ∷ ys) n e = formed_all wanted Construct place i (y ∷ ys) e
+-- ---- two and three trees
 
 pub plainly_pair : (wanted : Form) (own : Built) (place : Place) (a b : Seen) (x y : Shown) → a ≡ seen wanted x → b ≡ seen wanted y → plainly wanted own place (two_trees a b) ≡ seen wanted (plain own place (x ∷ (y ∷ [])))
 plainly_pair wanted own place a b x y e h =
@@ -133,11 +121,6 @@ pub called_list : (wanted : Form) (place : Place) (i r : Inside) (s callee : See
 called_list wanted place i r s callee x [] n c e h g = g ∙ plainly_all wanted Nothing place r (x ∷ []) (h (x ∷ []) (e ∙ (ap one_tree c ∙ sym (inside_one wanted x))))
 called_list wanted place i r s callee x (a ∷ []) n c e h g = absurd (n refl)
 called_list wanted place i r s callee x (a ∷ (b ∷ args)) n c e h g = g ∙ plainly_all wanted Nothing place r (x ∷ (shown_expr a ∷ (shown_expr b ∷ map shown_expr args))) (h (x ∷ []) (e ∙ (ap one_tree c ∙ sym (inside_one wanted x))))
-
-pub only_list : (f : Expr → Shown) (args : List Expr) (a : Expr) → length args ≡ 1 → a ≡ get_or args 0 a → map f args ≡ f a ∷ []
-only_list f [] a n h = absurd (cc)
-only_list f (b ∷ []) a n h = ap (λ x. f x ∷ []) (sym h)
-only_list f (b ∷ (d ∷ args)) a n h = absurd (omega arith)
 
 -- ---- what is added to trees before
 

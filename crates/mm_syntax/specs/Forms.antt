@@ -1,5 +1,5 @@
 -- The forms of trees, by which a unit's parts are built one after another. Own.
-use Rattle.std.specs.Prelude.{◌≡◌, ℕ, Bool, true, false, ◌&&◌, not, if◌then◌else◌, List, [], ◌∷◌, ◌++◌, map, Option, Some, None, codes, ◌==◌}
+use Rattle.std.specs.Prelude.{ℕ, Bool, true, false, ◌&&◌, not, if◌then◌else◌, List, [], ◌∷◌, ◌++◌, map, Option, Some, None, codes, ◌==◌}
 use Rattle.std.specs.List.{flat_map}
 use Rattle.std.specs.Str.{bytes_eq}
 use Rattle.mm_base.specs.declared.place.Place.{Place}
@@ -24,7 +24,6 @@ use Rattle.mm_syntax.specs.declared.stmt.ForStart.TheVariants as start
 use Rattle.mm_syntax.specs.declared.stmt.Stmt.{Stmt, fold-Stmt}
 use Rattle.mm_syntax.specs.declared.stmt.StmtKind.TheOpen.{StmtKind-F}
 use Rattle.mm_syntax.specs.declared.decl.Param.{Param}
-use Rattle.mm_syntax.specs.declared.decl.Params.{Params}
 use Rattle.mm_syntax.specs.declared.decl.Head.{Head}
 use Rattle.mm_syntax.specs.declared.decl.Init.{Init}
 use Rattle.mm_syntax.specs.declared.decl.ConstructorBody.{ConstructorBody}
@@ -113,22 +112,22 @@ is_type built.Type = true
 is_type _ = false
 
 -- this one, or none
-abbrev pub where_ : Bool → Built → Built
-where_ true own = own
-where_ false own = built.Nothing
+abbrev pub only_if : Bool → Built → Built
+only_if true own = own
+only_if false own = built.Nothing
 
 abbrev pub number_built : Number → Built
-number_built n = where_ (not (is_unsigned n.text)) built.Number
+number_built n = only_if (not (is_unsigned n.text)) built.Number
 
 abbrev pub name_built : List ℕ → Built
-name_built text = where_ (bytes_eq text (codes "mm_put")) built.Callee
+name_built text = only_if (bytes_eq text (codes "mm_put")) built.Callee
 
 -- sums group from the left
 abbrev pub sum_built : BinaryOperator → Built → Built → Built
-sum_built op a b = where_ (is_plus op && (is_sum a && is_number b)) built.Sum
+sum_built op a b = only_if (is_plus op && (is_sum a && is_number b)) built.Sum
 
 abbrev pub call_built : Built → List Shown → Built
-call_built first (x ∷ []) = where_ (is_callee first && is_sum x.built) built.Call
+call_built first (x ∷ []) = only_if (is_callee first && is_sum x.built) built.Call
 call_built first _ = built.Nothing
 
 abbrev pub run_built : Built → Built
@@ -136,14 +135,14 @@ run_built built.Call = built.Statement
 run_built _ = built.Nothing
 
 abbrev pub return_built : Built → Built
-return_built b = where_ (is_sum b) built.Statement
+return_built b = only_if (is_sum b) built.Statement
 
 abbrev pub all_statements : List Shown → Bool
 all_statements [] = true
 all_statements (x ∷ xs) = is_statement x.built && all_statements xs
 
 abbrev pub block_built : List Shown → Built
-block_built xs = where_ (all_statements xs) built.Block
+block_built xs = only_if (all_statements xs) built.Block
 
 abbrev pub type_built : TypeNameKind → Built
 type_built type.Int = built.Type
@@ -270,7 +269,7 @@ abbrev pub is_main : Head → Bool
 is_main x = is_type (shown_type x.type_name).built && (is_absent x.mark && (bytes_eq x.name.text (codes "main") && (not x.params.has_void && is_empty x.params.list)))
 
 abbrev pub function_built : Head → Built → Built
-function_built x body = where_ (is_main x && is_block body) built.Function
+function_built x body = only_if (is_main x && is_block body) built.Function
 
 abbrev pub init_shown : Init → List Shown
 init_shown x = map shown_expr x.arguments

@@ -1,19 +1,16 @@
 -- What every unit keeps that was read from tokens: bounds on its expressions, statements and numbers of parts. Own.
-use Rattle.std.specs.Prelude.{ℕ, ◌+◌, ◌*◌, ◌^◌, ◌≤◌, max, List, [], ◌∷◌, ◌++◌, length, map, All, sum, Option, Some, None}
+use Rattle.std.specs.Prelude.{ℕ, ◌+◌, ◌^◌, ◌≤◌, max, List, [], ◌∷◌, ◌++◌, length, map, All, sum, Option, Some, None}
 use Rattle.std.specs.List.{flat_map}
 use Rattle.mm_syntax.specs.declared.name.Name.{Name}
 use Rattle.mm_syntax.specs.declared.expr.Expr.{Expr, fold-Expr}
 use Rattle.mm_syntax.specs.declared.expr.ExprKind.TheOpen.{ExprKind-F}
 use Rattle.mm_syntax.specs.declared.stmt.Initializer.{Initializer}
 use Rattle.mm_syntax.specs.declared.stmt.Initializer.TheVariants as initializer
-use Rattle.mm_syntax.specs.declared.stmt.Declarator.{Declarator}
 use Rattle.mm_syntax.specs.declared.stmt.Variables.{Variables}
 use Rattle.mm_syntax.specs.declared.stmt.ForStart.{ForStart}
 use Rattle.mm_syntax.specs.declared.stmt.ForStart.TheVariants as start
 use Rattle.mm_syntax.specs.declared.stmt.Stmt.{Stmt, fold-Stmt}
 use Rattle.mm_syntax.specs.declared.stmt.StmtKind.TheOpen.{StmtKind-F}
-use Rattle.mm_syntax.specs.declared.decl.Head.{Head}
-use Rattle.mm_syntax.specs.declared.decl.Params.{Params}
 use Rattle.mm_syntax.specs.declared.decl.Init.{Init}
 use Rattle.mm_syntax.specs.declared.decl.ConstructorBody.{ConstructorBody}
 use Rattle.mm_syntax.specs.declared.decl.FnDecl.{FnDecl}
@@ -21,10 +18,8 @@ use Rattle.mm_syntax.specs.declared.decl.FnDeclKind.{FnDeclKind}
 use Rattle.mm_syntax.specs.declared.decl.FnDeclKind.TheVariants as f
 use Rattle.mm_syntax.specs.declared.decl.Member.{Member}
 use Rattle.mm_syntax.specs.declared.decl.Member.TheVariants as m
-use Rattle.mm_syntax.specs.declared.decl.ClassDecl.{ClassDecl}
 use Rattle.mm_syntax.specs.declared.decl.ClassDeclKind.{ClassDeclKind}
 use Rattle.mm_syntax.specs.declared.decl.ClassDeclKind.TheVariants as c
-use Rattle.mm_syntax.specs.declared.decl.Decl.{Decl}
 use Rattle.mm_syntax.specs.declared.decl.DeclKind.{DeclKind}
 use Rattle.mm_syntax.specs.declared.decl.DeclKind.TheVariants as d
 use Rattle.mm_syntax.specs.declared.decl.Unit.{Unit as UnitTree}

@@ -1,5 +1,5 @@
 -- What a walk for the first tree of a form carries. Own.
-use Rattle.std.specs.Prelude.{◌≡◌, Bool, true, false, ◌&&◌, if◌then◌else◌, ◌==◌, List, [], ◌∷◌, ◌++◌, Option, Some, None}
+use Rattle.std.specs.Prelude.{◌≡◌, true, ◌&&◌, if◌then◌else◌, ◌==◌, List, ◌++◌, Option, Some, None}
 use Rattle.mm_base.specs.declared.place.Place.{Place}
 use Rattle.mm_syntax.specs.declared.walk.Form.{Form}
 use Rattle.mm_syntax.specs.declared.walk.Form.TheVariants as form
@@ -9,7 +9,7 @@ use Rattle.mm_syntax.specs.declared.walk.Built.{Built}
 use Rattle.mm_syntax.specs.declared.walk.Built.TheVariants as built
 use Rattle.mm_syntax.specs.declared.walk.Seen.{Seen}
 use Rattle.mm_syntax.specs.declared.walk.Inside.{Inside}
-use Rattle.mm_syntax.specs.Forms.{Shown, Mark, first_of, form_number, marks_of, all_built, all_statements, is_built, is_statement, scalar_mark}
+use Rattle.mm_syntax.specs.Forms.{Shown, first_of, form_number, marks_of, all_built, all_statements, is_built, is_statement, scalar_mark}
 
 -- of a tree
 abbrev pub seen : Form → Shown → Seen

@@ -5,5 +5,4 @@ ghost use Rattle.mm_syntax.specs.Laws.{OneTree};
 /// Tokens are a text of each rule with at most one tree. Nothing runs here: the clause is the law.
 pub fn one_tree()
     ensures { OneTree }
-{
-}
+{}

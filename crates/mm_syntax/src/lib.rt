@@ -9,4 +9,6 @@ pub mod part;
 pub mod stmt;
 pub mod symbol;
 pub mod taken;
+#[cfg(test)]
+mod tests;
 pub mod walk;

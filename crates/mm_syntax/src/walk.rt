@@ -2,7 +2,7 @@
 
 ghost use Rattle.std.specs.List.{flat_map};
 ghost use Rattle.std.specs.Prelude.{◌≡◌, ◌&&◌, not, ◌∷◌, [], ◌++◌, List, map};
-ghost use Rattle.mm_syntax.specs.Forms.{form_number, is_built, is_sum, is_number, is_plus, is_callee, is_statement, is_block, is_type, number_built, name_built, sum_built, run_built, return_built, where_, call_built, shown_expr, Shown, made_shown, call_shown, plain, shown_type, maybe_expr, mark_or, declarator_shown, variables_shown, start_shown, block_built, return_shown, shown_stmt, param_shown, head_shown, is_main, function_built, init_shown, body_shown, maybe_body, maybe_block, method_form, shown_fn, member_shown, shown_class, shown_decl, shown_unit, first_of, of_form, fn_shown};
+ghost use Rattle.mm_syntax.specs.Forms.{form_number, is_built, is_sum, is_number, is_plus, is_callee, is_statement, is_block, is_type, number_built, name_built, sum_built, run_built, return_built, only_if, call_built, shown_expr, Shown, made_shown, call_shown, plain, shown_type, maybe_expr, mark_or, declarator_shown, variables_shown, start_shown, block_built, return_shown, shown_stmt, param_shown, head_shown, is_main, function_built, init_shown, body_shown, maybe_body, maybe_block, method_form, shown_fn, member_shown, shown_class, shown_decl, shown_unit, first_of, of_form, fn_shown};
 ghost use Rattle.mm_syntax.specs.declared.walk.Built.TheVariants.{Call, Nothing};
 ghost use Rattle.mm_syntax.specs.Walk.{seen, inside, next, no_tree, one_tree, two_trees, three_trees, formed, plainly, unary_seen, Adds};
 
@@ -95,7 +95,7 @@ impl Built {
 
 /// This one, or none.
 fn where_holds(holds: bool, own: Built) -> Built
-    ensures { result ≡ where_ holds own }
+    ensures { result ≡ only_if holds own }
 {
     if holds { own } else { Built::Nothing }
 }
@@ -194,7 +194,7 @@ fn sum_tree(operator: BinaryOperator, left: Built, right: Built) -> Built
 }
 
 fn call_tree(callee: Built, argument: Built) -> Built
-    ensures { result ≡ where_ (is_callee callee && is_sum argument) Call }
+    ensures { result ≡ only_if (is_callee callee && is_sum argument) Call }
 {
     where_holds(
         matches!(callee, Built::Callee) && argument.is_sum(),

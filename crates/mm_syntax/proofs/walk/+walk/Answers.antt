@@ -1,6 +1,4 @@
-use Rattle.std.proofs.Common.{◌≡◌, List, ap, sym, subst, refl}
-use Rattle.mm_syntax.specs.Forms.{shown_expr, call_shown}
-use Rattle.mm_syntax.specs.Walk.{seen}
+use Rattle.mm_syntax.specs.Forms.{shown_expr}
 use Rattle.mm_syntax.proofs.Walked.{made_list, called_list, adds_more}
 use Rattle.mm_syntax.proofs.walk.+walk.Goals as goal
 

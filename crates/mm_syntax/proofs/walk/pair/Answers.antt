@@ -1,5 +1,5 @@
 use Rattle.std.proofs.Common.{◌∙◌, ap}
-use Rattle.mm_syntax.specs.Walk.{plainly, two_trees, seen}
+use Rattle.mm_syntax.specs.Walk.{plainly}
 use Rattle.mm_syntax.proofs.Walked.{plainly_pair}
 use Rattle.mm_syntax.proofs.walk.pair.Goals as goal
 
