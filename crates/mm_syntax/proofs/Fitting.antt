@@ -1,8 +1,8 @@
 -- The claims fit the grammar.
-use Rattle.std.proofs.Common.{◌≡◌, ℕ, zero, suc, Bool, true, false, not, if◌then◌else◌, IsTrue, List, [], ◌∷◌, map, ◌⊎◌, Option, Some, None, inl, inr, refl, sym, subst, ◌∙◌}
+use Rattle.std.proofs.Common.{◌≡◌, ℕ, zero, suc, Bool, true, false, not, if◌then◌else◌, IsTrue, List, [], ◌∷◌, map, Option, Some, None, inl, inr, refl, sym, subst}
 use Rattle.mm_token.specs.declared.token.Token.{Token}
-use Rattle.mm_grammar.specs.Grammar.{name, seq, alt, give, PartOf, has}
-use Rattle.mm_grammar.specs.Ahead.{Follows, AtTail, Sealed, Fit, fits, has_no_tail, first_of, more_of, empty_of}
+use Rattle.mm_grammar.specs.Grammar.{name, seq, alt, has}
+use Rattle.mm_grammar.specs.Ahead.{Follows, Sealed, Fit, has_no_tail, more_of, empty_of}
 use Rattle.mm_grammar.proofs.Laws.{follows_more}
 use Rattle.mm_grammar.proofs.Plain.{plain_sealed, plain_after}
 use Rattle.mm_syntax.specs.declared.symbol.Symbol.TheVariants as k

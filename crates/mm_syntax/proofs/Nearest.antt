@@ -1,5 +1,5 @@
 -- Which statements an `else` can follow.
-use Rattle.std.proofs.Common.{◌≡◌, Bool, true, false, Option, Some, None, rules}
+use Rattle.std.proofs.Common.{◌≡◌, false, Option, Some, None, rules}
 use Rattle.mm_token.specs.declared.token.Token.{Token}
 use Rattle.mm_syntax.specs.declared.stmt.Stmt.{Stmt}
 use Rattle.mm_syntax.specs.declared.stmt.StmtKind.{the_lemmas}

@@ -1,5 +1,5 @@
 -- The trees that the rules of functions, classes and declarations give. Own.
-use Rattle.std.specs.Prelude.{ℕ, Bool, true, false, List, [], ◌∷◌, ◌++◌, Option, Some, None}
+use Rattle.std.specs.Prelude.{ℕ, true, false, List, [], ◌∷◌, ◌++◌, Option, Some, None}
 use Rattle.mm_base.specs.declared.place.Place.{Place}
 use Rattle.mm_token.specs.declared.token.Token.{Token}
 use Rattle.mm_syntax.specs.declared.symbol.Symbol.{Symbol}
@@ -18,14 +18,12 @@ use Rattle.mm_syntax.specs.declared.decl.Params.{Params}
 use Rattle.mm_syntax.specs.declared.decl.Head.{Head}
 use Rattle.mm_syntax.specs.declared.decl.Init.{Init}
 use Rattle.mm_syntax.specs.declared.decl.ConstructorBody.{ConstructorBody}
-use Rattle.mm_syntax.specs.declared.decl.FnDecl.{FnDecl}
 use Rattle.mm_syntax.specs.declared.decl.FnDeclKind.{FnDeclKind}
 use Rattle.mm_syntax.specs.declared.decl.FnDeclKind.TheVariants as f
 use Rattle.mm_syntax.specs.declared.decl.Base.{Base}
 use Rattle.mm_syntax.specs.declared.decl.FieldName.{FieldName}
 use Rattle.mm_syntax.specs.declared.decl.Member.{Member}
 use Rattle.mm_syntax.specs.declared.decl.Member.TheVariants as m
-use Rattle.mm_syntax.specs.declared.decl.ClassDecl.{ClassDecl}
 use Rattle.mm_syntax.specs.declared.decl.ClassDeclKind.{ClassDeclKind}
 use Rattle.mm_syntax.specs.declared.decl.ClassDeclKind.TheVariants as c
 use Rattle.mm_syntax.specs.declared.decl.Decl.{Decl}

@@ -1,5 +1,5 @@
 -- The trees that the rules of statements give. Own.
-use Rattle.std.specs.Prelude.{Bool, true, false, List, [], ◌∷◌, Option, Some, None}
+use Rattle.std.specs.Prelude.{Bool, true, false, List, Option, Some, None}
 use Rattle.mm_base.specs.declared.place.Place.{Place}
 use Rattle.mm_token.specs.declared.token.Token.{Token}
 use Rattle.mm_syntax.specs.declared.name.DeclaratorMark.{DeclaratorMark}
@@ -10,10 +10,9 @@ use Rattle.mm_syntax.specs.declared.stmt.Variables.{Variables}
 use Rattle.mm_syntax.specs.declared.stmt.Initializer.{Initializer}
 use Rattle.mm_syntax.specs.declared.stmt.Initializer.TheVariants as initializer
 use Rattle.mm_syntax.specs.declared.stmt.ForStart.{ForStart}
-use Rattle.mm_syntax.specs.declared.stmt.ForStart.TheVariants as start
 use Rattle.mm_syntax.specs.declared.stmt.Stmt.{Stmt, fold-Stmt}
 use Rattle.mm_syntax.specs.declared.stmt.StmtKind.{StmtKind}
-use Rattle.mm_syntax.specs.declared.stmt.StmtKind.TheOpen.{StmtKind-F, Stmt-F}
+use Rattle.mm_syntax.specs.declared.stmt.StmtKind.TheOpen.{StmtKind-F}
 use Rattle.mm_syntax.specs.declared.stmt.StmtKind.TheVariants as s
 use Rattle.mm_syntax.specs.declared.part.Begun.{Begun}
 use Rattle.mm_syntax.specs.Built.{name_of}

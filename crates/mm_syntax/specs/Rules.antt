@@ -1,12 +1,10 @@
 -- The grammar of a unit as data: one clause of `rule_of` for each rule, with the tree that it gives. Own, after
 -- ISO/IEC 14882:1998, annex A, of which it is a subset.
-use Rattle.std.specs.Prelude.{ℕ, zero, suc, Bool, true, false, List, [], ◌∷◌, ◌++◌, map, Option, Some, None}
-use Rattle.mm_base.specs.declared.place.Place.{Place}
-use Rattle.mm_grammar.specs.Grammar.{Part, one, name, nothing, seq, alt, fork, many, tailed, kept, give, opt, Language}
+use Rattle.std.specs.Prelude.{ℕ, zero, suc, List, [], ◌∷◌, map, Option, Some, None}
+use Rattle.mm_grammar.specs.Grammar.{Part, one, name, seq, alt, fork, many, tailed, kept, give, opt, Language}
 use Rattle.mm_token.specs.declared.token.Token.{Token}
 use Rattle.mm_syntax.specs.declared.symbol.Symbol.{Symbol}
 use Rattle.mm_syntax.specs.declared.symbol.Symbol.TheVariants as k
-use Rattle.mm_syntax.specs.declared.name.Name.{Name}
 use Rattle.mm_syntax.specs.declared.name.DeclaratorMark.{DeclaratorMark}
 use Rattle.mm_syntax.specs.declared.expr.Expr.{Expr}
 use Rattle.mm_syntax.specs.declared.expr.ExprKind.{ExprKind}

@@ -1,6 +1,6 @@
 -- The words and marks of the grammar, and which of them a token is. The marks are those of ISO/IEC 14882:1998, 2.12,
 -- that the grammar has; the words are its keywords of 2.11.
-use Rattle.std.specs.Prelude.{ℕ, Bool, List, [], ◌∷◌, codes, if◌then◌else◌}
+use Rattle.std.specs.Prelude.{ℕ, List, [], ◌∷◌, codes, if◌then◌else◌}
 use Rattle.std.specs.Str.{bytes_eq}
 use Rattle.mm_token.specs.declared.token.Kind.TheVariants as kind
 use Rattle.mm_token.specs.declared.token.Kind.{Kind}

@@ -3,7 +3,12 @@
 
 pub mod decl;
 pub mod expr;
+pub mod law;
 pub mod name;
 pub mod part;
 pub mod stmt;
 pub mod symbol;
+pub mod taken;
+#[cfg(test)]
+mod tests;
+pub mod walk;

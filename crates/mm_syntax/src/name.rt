@@ -1,5 +1,9 @@
 // Names, numbers and the words and marks that differ between alternatives.
 
+ghost use Rattle.std.specs.Prelude.{◌≡◌};
+ghost use Rattle.std.specs.Option.{option_copied};
+ghost use Rattle.mm_syntax.specs.Numbers.{is_suffix, is_unsigned};
+
 use mm_base::place::Place;
 use mm_base::text::Text;
 
@@ -16,6 +20,24 @@ pub struct Number {
     /// With the suffix, where there is one.
     pub text: Text,
     pub value: u32,
+}
+
+impl Number {
+    /// Whether it has the suffix.
+    pub fn has_suffix(&self) -> bool
+        ensures { result ≡ is_unsigned self.now.text }
+    {
+        is_last_suffix(self.text.as_bytes().last())
+    }
+}
+
+fn is_last_suffix(last: Option<&u8>) -> bool
+    ensures { result ≡ is_suffix (option_copied last.entry) }
+{
+    match last {
+        Some(last) => *last == b'u' || *last == b'U',
+        None => false,
+    }
 }
 
 /// Who may use a member or a base.
