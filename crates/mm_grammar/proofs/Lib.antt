@@ -1,0 +1,12 @@
+pub mod Lists
+pub mod Deep
+pub mod Laws
+pub mod Follow
+pub mod Closed
+pub mod Plain
+pub mod Reading
+pub mod Loops
+pub mod Here
+pub mod Forks
+pub mod Tails
+pub mod Small

@@ -1,0 +1,4 @@
+pub mod Turns
+pub mod Exits
+pub mod Longest
+pub mod Count

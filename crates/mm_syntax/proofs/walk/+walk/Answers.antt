@@ -1,0 +1,13 @@
+use Rattle.mm_syntax.specs.Forms.{shown_expr}
+use Rattle.mm_syntax.proofs.Walked.{made_list, called_list, adds_more}
+use Rattle.mm_syntax.proofs.walk.+walk.Goals as goal
+
+pub made-returns : goal.made-returns
+made-returns t c = made_list c.args.wanted c.args.place c.new-2.result c.exprs.result c.of_form-2.result c.args.args.now c.if-is_empty.ensures c.new-2.ensures c.exprs.ensures c.of_form-2.ensures
+
+pub called-returns-then-args-ne1 : goal.called-returns-then-args-ne1
+called-returns-then-args-ne1 t c x e = called_list c.args.wanted c.args.place c.one.result c.exprs-all.result c.plain.result c.args.callee x c.args.args.now c.if-args-ne1.true e c.one.ensures c.exprs-all.ensures c.plain.ensures
+
+pub exprs-loop-tree-preserved : goal.exprs-loop-tree-preserved
+exprs-loop-tree-preserved t c =
+    adds_more shown_expr c.args.wanted c.args.before c.loop-tree.all c.and-all.result c.expr.result c.args.list.now c.loop-tree.tree-index c.tree-item.result c.loop-tree-test.true c.tree-item.is c.loop-tree.invariant c.expr.ensures c.and-all.ensures
