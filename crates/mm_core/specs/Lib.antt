@@ -3,3 +3,4 @@ pub mod State
 pub mod Meaning
 pub mod Run
 pub mod Valid
+pub mod Settles

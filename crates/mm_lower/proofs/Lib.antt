@@ -8,3 +8,4 @@ pub mod Stmts
 pub mod Programs
 pub mod Locals
 pub mod Fits
+pub mod Simulation

@@ -1,2 +1,4 @@
-//! The C code of checked trees, and that it runs as they do. Definitions and laws alone.
+//! The C code of checked trees, and that it runs as they do. Definitions and a law; the code that writes such code is the callers'.
 #![tactic(auto)]
+
+pub mod law;

@@ -1,0 +1,20 @@
+-- A run that came to its end stays as it is at higher bounds, and one that goes on has put a front of what is put later. (Own.)
+use Rattle.std.specs.Prelude.{◌≡◌, ◌⊎◌, ℕ, suc, ℤ, List, ◌++◌}
+use Rattle.mm_core.specs.Tree.{Program}
+use Rattle.mm_core.specs.State.{State}
+use Rattle.mm_core.specs.Run.{Outcome, GoesOn, source_run}
+
+-- the one list begins with the other
+abbrev pub IsFront : List ℤ → List ℤ → Type 0
+IsFront zs all = (more : List ℤ) × (all ≡ zs ++ more)
+
+-- nothing that was put is taken back
+pub record Before (s t : State) : Type 0 where
+  pub put : IsFront s.world.put t.world.put
+
+-- a run, and the one with one step more in the bound
+abbrev pub SettlesAt : Outcome → Outcome → Type 0
+SettlesAt o o' = (o' ≡ o) ⊎ ((o.finish ≡ GoesOn) × IsFront o.put o'.put)
+
+pub record Settles : Type 0 where
+  pub by : (p : Program) (input : List ℤ) (n : ℕ) → SettlesAt (source_run p input n) (source_run p input (suc n))
