@@ -1,8 +1,8 @@
 -- How the count of tokens goes on by one.
-use Rattle.std.proofs.Common.{◌≡◌, ℕ, zero, suc, ◌+◌, ◌-◌, ◌≤◌, ◌<◌, Bool, true, false, if◌then◌else◌, List, [], ◌∷◌, ◌++◌, length, take, get_or, refl, ap, sym, ◌∙◌, subst, arith}
+use Rattle.std.proofs.Common.{◌≡◌, ℕ, suc, ◌+◌, ◌-◌, ◌≤◌, ◌<◌, true, false, if◌then◌else◌, List, [], ◌∷◌, ◌++◌, length, take, get_or, refl, ap, sym, ◌∙◌, arith}
 use Rattle.std.proofs.lemmas.List.{take_more}
 use Rattle.mm_token.specs.declared.token.Token.{Token}
-use Rattle.mm_parse_expr.specs.Longest.{count_from, ends_count, room_after}
+use Rattle.mm_parse_expr.specs.Longest.{count_from, ends_count}
 
 pub count_snoc : (n : ℕ) (xs : List Token) (t : Token) → count_from n (xs ++ t ∷ []) ≡ (if ends_count t then 0 else suc (count_from n xs))
 count_snoc n [] t = refl

@@ -1,7 +1,7 @@
 -- The exits of each reader of expressions, over plain lists of tokens.
-use Rattle.std.proofs.Common.{◌≡◌, ℕ, ◌<◌, ◌≤◌, ◌+◌, IsTrue, List, [], ◌∷◌, ◌++◌, ◌⊎◌, inl, inr, map, length, refl, ap, sym, ◌∙◌, subst, arith, Option, Some, None, append_assoc}
+use Rattle.std.proofs.Common.{◌≡◌, ◌≤◌, List, [], ◌∷◌, ◌++◌, inl, inr, map, length, refl, ap, sym, ◌∙◌, subst, Option, Some, None, append_assoc}
 use Rattle.std.proofs.lemmas.List.{append-nil}
-use Rattle.mm_grammar.specs.Grammar.{name, seq, alt, many, give, opt, Reads, Fails, has}
+use Rattle.mm_grammar.specs.Grammar.{name, seq, many, give, opt, Reads, Fails}
 use Rattle.mm_grammar.specs.Ahead.{first_of}
 use Rattle.mm_grammar.proofs.Lists.{has-split}
 use Rattle.mm_grammar.proofs.Loops.{SoFar, begun, not_begun, once_more, ended_here, failed_inside, opt_none}
@@ -17,11 +17,11 @@ use Rattle.mm_syntax.specs.declared.part.End.{End}
 use Rattle.mm_syntax.specs.declared.part.Suffix.{Suffix}
 use Rattle.mm_syntax.specs.Symbols.{symbol_of, number_of}
 use Rattle.mm_syntax.specs.Built as b
-use Rattle.mm_syntax.specs.Rules.{P, Rule, units, token, rule_of, expr, or, unary, postfix, primary, args, end, assigning, inside, call, after_new, scope, scoped, selected, suffix, prefixes, leaves, enclosed, cast_to, another}
+use Rattle.mm_syntax.specs.Rules.{P, units, token, rule_of, expr, or, unary, postfix, primary, args, end, assigning, inside, call, after_new, scope, scoped, selected, suffix, prefixes, leaves, enclosed, cast_to, another}
 use Rattle.mm_syntax.proofs.Claims.{ahead}
 use Rattle.mm_syntax.proofs.Fitting.{fit}
 use Rattle.mm_cursor.specs.Cursor.{Eats}
-use Rattle.mm_cursor.proofs.Steps.{Took, is_plain, good, ok_is, ate, other, avoid_both, taken_shorter, pair, first_fails, second_fails, gives, gives_not, named, named_not, after, after_fails, before, before_fails, before_then_fails, some, none, some_fails, first_reads, first_one_fails, second_reads, second_one_fails}
+use Rattle.mm_cursor.proofs.Steps.{Took, good, ok_is, ate, other, avoid_both, taken_shorter, pair, first_fails, second_fails, gives, gives_not, named, named_not, after, after_fails, before, before_fails, before_then_fails, some, none, some_fails, first_reads, first_one_fails, second_reads, second_one_fails}
 use Rattle.mm_parse_expr.specs.Parts.{target, member, closing, cast_of}
 use Rattle.mm_parse_expr.proofs.Turns.{ungive, ungive_not, swap_reads, swap_fails}
 

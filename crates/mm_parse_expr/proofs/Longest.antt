@@ -1,7 +1,7 @@
 -- From readings of the tokens up to the first one past the limit to longest fronts of all of them.
-use Rattle.std.proofs.Common.{◌≡◌, ℕ, zero, suc, ◌+◌, ◌-◌, ◌≤◌, ◌<◌, List, [], ◌∷◌, ◌++◌, ◌⊎◌, inl, inr, length, drop, take, refl, ap, sym, ◌∙◌, subst, arith, append_assoc, Result, Ok, Err}
+use Rattle.std.proofs.Common.{◌≡◌, ℕ, suc, ◌+◌, ◌-◌, ◌≤◌, ◌<◌, List, [], ◌∷◌, ◌++◌, ◌⊎◌, inl, inr, length, drop, take, refl, ap, sym, ◌∙◌, subst, arith, append_assoc, Ok, Err}
 use Rattle.std.proofs.lemmas.List.{length-append, length-drop, append-nil, take-append-drop}
-use Rattle.mm_grammar.specs.Grammar.{name, Spells, Front, Reads, Fails, Stuck, RuleSpells, RuleFront}
+use Rattle.mm_grammar.specs.Grammar.{name, Front, Reads, Fails, Stuck, RuleSpells, RuleFront}
 use Rattle.mm_grammar.proofs.Lists.{equal, later, earlier, cuts}
 use Rattle.mm_grammar.proofs.Laws.{spell_front}
 use Rattle.mm_grammar.proofs.Closed.{lawful}
@@ -18,7 +18,7 @@ use Rattle.mm_cursor.specs.declared.Stop.{Stop}
 use Rattle.mm_cursor.specs.declared.Stop.TheVariants as stop
 use Rattle.mm_cursor.specs.Cursor.{Answers}
 use Rattle.mm_cursor.proofs.Steps.{good}
-use Rattle.mm_parse_expr.specs.Longest.{IsLongestFront, IsExpr, IsNoExpr, IsNotExpr, IsTooLong, IsPlaceAt, ParsesFrom, OneTree, place_of, y1, y2}
+use Rattle.mm_parse_expr.specs.Longest.{IsLongestFront, IsExpr, IsNotExpr, IsTooLong, IsPlaceAt, ParsesFrom, OneTree, place_of, y1, y2}
 
 is_longest : (ts used rest : List Token) → ts ≡ used ++ rest → Front units (name expr) used → Stuck units (name expr) used rest → IsLongestFront ts used rest
 is_longest ts used rest cut front stuck = record {

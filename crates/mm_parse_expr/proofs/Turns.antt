@@ -1,27 +1,19 @@
 -- The turns of each reader of expressions, over plain lists of tokens.
-use Rattle.std.proofs.Common.{◌≡◌, ℕ, zero, suc, ◌+◌, ◌-◌, ◌<◌, ◌≤◌, IsTrue, List, [], ◌∷◌, ◌++◌, ◌⊎◌, inl, inr, map, length, refl, ap, sym, ◌∙◌, subst, arith, Option, Some, None, append_assoc}
-use Rattle.std.proofs.lemmas.List.{append-nil}
-use Rattle.mm_grammar.specs.Grammar.{name, seq, alt, many, give, opt, Reads, Fails, has}
+use Rattle.std.proofs.Common.{◌≡◌, ℕ, zero, suc, ◌+◌, ◌-◌, ◌<◌, ◌≤◌, IsTrue, List, inl, inr, map, length, refl, ap, sym, subst, arith, None}
+use Rattle.mm_grammar.specs.Grammar.{seq, alt, many, give, Reads, Fails, has}
 use Rattle.mm_grammar.specs.Ahead.{first_of}
-use Rattle.mm_grammar.proofs.Loops.{SoFar, begun, not_begun, once_more, ended_here, failed_inside}
-use Rattle.mm_grammar.proofs.Here.{opt_some_of, opt_fail_of, opt_fail_shorter, many_none_of, opt_then_fail}
+use Rattle.mm_grammar.proofs.Loops.{SoFar, once_more, ended_here, failed_inside}
 use Rattle.mm_token.specs.declared.token.Token.{Token}
 use Rattle.mm_syntax.specs.declared.symbol.Symbol.{Symbol}
-use Rattle.mm_syntax.specs.declared.symbol.Symbol.TheVariants as k
-use Rattle.mm_syntax.specs.declared.expr.Expr.{Expr}
-use Rattle.mm_syntax.specs.declared.expr.ExprKind.{ExprKind}
-use Rattle.mm_syntax.specs.declared.name.Name.{Name}
 use Rattle.mm_syntax.specs.declared.part.Begun.{Begun}
-use Rattle.mm_syntax.specs.declared.part.End.{End}
-use Rattle.mm_syntax.specs.declared.part.Suffix.{Suffix}
 use Rattle.mm_syntax.specs.Symbols.{symbol_of, number_of}
 use Rattle.mm_syntax.specs.Built as b
-use Rattle.mm_syntax.specs.Rules.{P, Value, Rule, units, token, rule_of, expr, or, and, eq, rel, add, mul, unary, postfix, primary, args, chain, link, end, assigning, inside, call, after_new, scope, scoped, selected, suffix, prefixes, leaves, enclosed, cast_to, another}
+use Rattle.mm_syntax.specs.Rules.{P, units, token, or, and, eq, rel, add, mul, chain, link}
 use Rattle.mm_syntax.proofs.Claims.{ahead}
 use Rattle.mm_syntax.proofs.Fitting.{fit}
 use Rattle.mm_cursor.specs.Cursor.{Eats}
-use Rattle.mm_cursor.proofs.Steps.{Took, is_plain, good, ok_is, ate, other, avoid_both, taken_shorter, pair, first_fails, second_fails, gives, gives_not, named, named_not, after, after_fails, before, before_fails, before_then_fails, some, none, some_fails, first_reads, first_one_fails, second_reads, second_one_fails}
-use Rattle.mm_parse_expr.specs.Parts.{part_at, operators_at, target, member, closing}
+use Rattle.mm_cursor.proofs.Steps.{Took, is_plain, good, ok_is, ate, taken_shorter, pair, first_fails, second_fails, gives, gives_not, named, named_not}
+use Rattle.mm_parse_expr.specs.Parts.{part_at, operators_at}
 
 -- ---- from a part with another value back to the part
 

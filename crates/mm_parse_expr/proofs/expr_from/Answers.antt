@@ -1,4 +1,4 @@
-use Rattle.std.proofs.Common.{◌≡◌, ◌≤◌, ◌<◌, length, inl, inr, arith}
+use Rattle.std.proofs.Common.{inl, inr, arith}
 use Rattle.mm_parse_expr.proofs.Longest.{answer_long_tree, answer_long_fault, answer_tree, answer_fault}
 use Rattle.mm_parse_expr.proofs.expr_from.Goals.{else-is_cut-via-then-is_cut+else-left-eq0, else-is_cut-via-else-is_cut, else-is_cut-2-via-then-is_cut-2+else-rest-le1, else-is_cut-2-via-else-is_cut-2}
 use Rattle.mm_parse_expr.proofs.expr_from.Goals as goal

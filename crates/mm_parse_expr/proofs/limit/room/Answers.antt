@@ -1,4 +1,4 @@
-use Rattle.std.proofs.Common.{◌≤◌, ◌<◌, ◌-◌, length, arith}
+use Rattle.std.proofs.Common.{arith}
 use Rattle.mm_parse_expr.proofs.Count.{ended, counted, last_of}
 use Rattle.mm_parse_expr.proofs.limit.room.Goals as goal
 

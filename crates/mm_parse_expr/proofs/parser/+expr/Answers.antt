@@ -1,9 +1,9 @@
-use Rattle.std.proofs.Common.{refl, [], ◌∷◌, ◌++◌, ◌≡◌, ◌≤◌, ◌<◌, ◌-◌, ◌+◌, length, ap, sym, subst, arith, ◌∙◌}
-use Rattle.mm_grammar.specs.Grammar.{seq, give, many, opt, name, Reads}
+use Rattle.std.proofs.Common.{[], ◌∷◌, ◌-◌, ◌+◌, length, ap, subst, arith}
+use Rattle.mm_grammar.specs.Grammar.{give, many, opt, name, Reads}
 use Rattle.mm_syntax.specs.declared.symbol.Symbol.TheVariants as k
 use Rattle.mm_syntax.specs.Built as b
-use Rattle.mm_syntax.specs.Rules.{units, token, link, expr, or, unary, postfix, primary, args, end, assigning, inside, scoped, suffix, after_new, prefixes, leaves, cast_to}
-use Rattle.mm_cursor.proofs.Steps.{err, err_take, tail, eats_some, eats_none, named, named_not}
+use Rattle.mm_syntax.specs.Rules.{units, link, expr, or, unary, postfix, primary, args, end, inside, scoped, suffix, after_new, cast_to}
+use Rattle.mm_cursor.proofs.Steps.{err, err_take, tail, eats_some, eats_none}
 use Rattle.mm_parse_expr.specs.Parts.{part_at, operators_at, target, member, closing}
 use Rattle.mm_parse_expr.proofs.Turns.{took_as, none_as, at_start, at_step, at_end, at_fault, falls_to, step_reads, step_fails, at_level}
 use Rattle.mm_parse_expr.proofs.Exits.{expr_reads, expr_no_left, expr_no_end, end_no_yes, end_no_colon, end_no_no, end_choice, end_assign, end_no_right, end_none, unary_prefixed, unary_no_operand, unary_new, unary_no_new, unary_postfix, unary_no_postfix, made_no_class, made_no_args, made_with, made_plain, primary_leaf, primary_enclosed, primary_not_closed, primary_cast, primary_no_cast, primary_scoped, primary_no_scoped, suffix_called, suffix_no_call, suffix_member, suffix_no_member, suffix_stepped, suffix_none, postfix_start, postfix_not, postfix_step, postfix_end, postfix_fails, inside_empty, inside_some, inside_unclosed, inside_fails, args_start, args_not, args_step, args_end, args_fail, closing_no_expr, closing_no_mark, closing_reads, cast_no_target, cast_no_open, cast_no_operand, cast_reads}
