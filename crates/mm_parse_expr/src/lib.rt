@@ -109,5 +109,4 @@ fn place_at(tokens: &[Token], at: usize) -> Place
 /// Tokens are the text of at most one expression.
 pub fn one_tree()
     ensures { OneTree }
-{
-}
+{}

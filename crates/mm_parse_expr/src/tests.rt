@@ -57,7 +57,9 @@ fn nests_as_deep_as_the_limit(rt: HostRuntime) -> Result<(), Fail> {
     let signs = nested(alloc, "!", 999, ";", 1)?;
     assert!(rt; matches!(expr(alloc, &signs, 0), Ok((_, 1000))));
     let open = nested(alloc, "(", 999, ")", 0)?;
-    assert!(rt; matches!(expr(alloc, &open, 0), Err(ParseEnd::Fault(code, at)) if code.number == 1 && at.col == 5000));
+    assert!(rt;
+        matches!(expr(alloc, &open, 0), Err(ParseEnd::Fault(code, at)) if code.number == 1 && at.col == 5000)
+    );
     let closed = nested(alloc, "(", 499, ")", 499)?;
     assert!(rt; matches!(expr(alloc, &closed, 0), Ok((_, 999))));
     Ok(())
@@ -67,10 +69,16 @@ fn nests_as_deep_as_the_limit(rt: HostRuntime) -> Result<(), Fail> {
 fn ends_one_past_the_limit(rt: HostRuntime) -> Result<(), Fail> {
     let alloc = rt.alloc();
     let signs = nested(alloc, "!", 1000, ";", 1)?;
-    assert!(rt; matches!(expr(alloc, &signs, 0), Err(ParseEnd::Fault(code, at)) if code.number == 2 && at.col == 1001));
+    assert!(rt;
+        matches!(expr(alloc, &signs, 0), Err(ParseEnd::Fault(code, at)) if code.number == 2 && at.col == 1001)
+    );
     let open = nested(alloc, "(", 3000, ")", 3000)?;
-    assert!(rt; matches!(expr(alloc, &open, 0), Err(ParseEnd::Fault(code, at)) if code.number == 2 && at.col == 1001));
+    assert!(rt;
+        matches!(expr(alloc, &open, 0), Err(ParseEnd::Fault(code, at)) if code.number == 2 && at.col == 1001)
+    );
     let late = nested(alloc, "(", 1, ";", 1)?;
-    assert!(rt; matches!(expr(alloc, &late, 0), Err(ParseEnd::Fault(code, at)) if code.number == 1 && at.col == 3));
+    assert!(rt;
+        matches!(expr(alloc, &late, 0), Err(ParseEnd::Fault(code, at)) if code.number == 1 && at.col == 3)
+    );
     Ok(())
 }
