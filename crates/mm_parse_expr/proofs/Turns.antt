@@ -1,27 +1,19 @@
 -- The turns of each reader of expressions, over plain lists of tokens.
-use Rattle.std.proofs.Common.{◌≡◌, ℕ, zero, suc, ◌+◌, ◌-◌, ◌<◌, ◌≤◌, IsTrue, List, [], ◌∷◌, ◌++◌, ◌⊎◌, inl, inr, map, length, refl, ap, sym, ◌∙◌, subst, arith, Option, Some, None, append_assoc}
-use Rattle.std.proofs.lemmas.List.{append-nil}
-use Rattle.mm_grammar.specs.Grammar.{name, seq, alt, many, give, opt, Reads, Fails, has}
+use Rattle.std.proofs.Common.{◌≡◌, ℕ, zero, suc, ◌+◌, ◌-◌, ◌<◌, ◌≤◌, IsTrue, List, inl, inr, map, length, refl, ap, sym, subst, arith, None}
+use Rattle.mm_grammar.specs.Grammar.{seq, alt, many, give, Reads, Fails, has}
 use Rattle.mm_grammar.specs.Ahead.{first_of}
-use Rattle.mm_grammar.proofs.Loops.{SoFar, begun, not_begun, once_more, ended_here, failed_inside}
-use Rattle.mm_grammar.proofs.Here.{opt_some_of, opt_fail_of, opt_fail_shorter, many_none_of, opt_then_fail}
+use Rattle.mm_grammar.proofs.Loops.{SoFar, once_more, ended_here, failed_inside}
 use Rattle.mm_token.specs.declared.token.Token.{Token}
 use Rattle.mm_syntax.specs.declared.symbol.Symbol.{Symbol}
-use Rattle.mm_syntax.specs.declared.symbol.Symbol.TheVariants as k
-use Rattle.mm_syntax.specs.declared.expr.Expr.{Expr}
-use Rattle.mm_syntax.specs.declared.expr.ExprKind.{ExprKind}
-use Rattle.mm_syntax.specs.declared.name.Name.{Name}
 use Rattle.mm_syntax.specs.declared.part.Begun.{Begun}
-use Rattle.mm_syntax.specs.declared.part.End.{End}
-use Rattle.mm_syntax.specs.declared.part.Suffix.{Suffix}
 use Rattle.mm_syntax.specs.Symbols.{symbol_of, number_of}
 use Rattle.mm_syntax.specs.Built as b
-use Rattle.mm_syntax.specs.Rules.{P, Value, Rule, units, token, rule_of, expr, or, and, eq, rel, add, mul, unary, postfix, primary, args, chain, link, end, assigning, inside, call, after_new, scope, scoped, selected, suffix, prefixes, leaves, enclosed, cast_to, another}
+use Rattle.mm_syntax.specs.Rules.{P, units, token, or, and, eq, rel, add, mul, chain, link}
 use Rattle.mm_syntax.proofs.Claims.{ahead}
 use Rattle.mm_syntax.proofs.Fitting.{fit}
 use Rattle.mm_cursor.specs.Cursor.{Eats}
-use Rattle.mm_cursor.proofs.Steps.{Took, is_plain, good, ok_is, ate, other, avoid_both, taken_shorter, pair, first_fails, second_fails, gives, gives_not, named, named_not, after, after_fails, before, before_fails, before_then_fails, some, none, some_fails, first_reads, first_one_fails, second_reads, second_one_fails}
-use Rattle.mm_parse_expr.specs.Parts.{part_at, operators_at, target, member, closing}
+use Rattle.mm_cursor.proofs.Steps.{Took, is_plain, good, ok_is, ate, taken_shorter, pair, first_fails, second_fails, gives, gives_not, named, named_not}
+use Rattle.mm_parse_expr.specs.Parts.{part_at, operators_at}
 
 -- ---- from a part with another value back to the part
 
@@ -37,7 +29,7 @@ swap_reads p q ts r v a = record {
   used = a.used;
   cut = a.cut;
   spelled = elim a.spelled [ inl i ↦ inr i | inr i ↦ inl i ];
-  stuck = λ x s tail e f. a.stuck x s tail e (elim f [ inl i ↦ inr i | inr i ↦ inl i ])
+  stuck = λ x s tail e f. a.stuck x s tail e (elim f [ inl i ↦ inr i | inr i ↦ inl i ]);
 }
 
 pub swap_fails : {A : Type 0} → (p q : P A) (ts r : List Token) → Fails units (alt q p) ts r → Fails units (alt p q) ts r
@@ -46,7 +38,7 @@ swap_fails p q ts r a = record {
   cut = a.cut;
   front = elim a.front [ inl i ↦ inr i | inr i ↦ inl i ];
   not_spelled = λ v s. a.not_spelled v (elim s [ inl i ↦ inr i | inr i ↦ inl i ]);
-  stuck = λ x s tail e f. a.stuck x s tail e (elim f [ inl i ↦ inr i | inr i ↦ inl i ])
+  stuck = λ x s tail e f. a.stuck x s tail e (elim f [ inl i ↦ inr i | inr i ↦ inl i ]);
 }
 
 -- ---- one operator and its right operand after another
@@ -61,24 +53,24 @@ module _ (p : P Begun) (ops : List Symbol) (left : Begun) (gm : IsTrue (is_plain
   links_step : (ts rest us r : List Token) (so_far right next : Begun) (op : Token) → SoFar units chained (link p ops) (b.joined so_far) ts rest → Took ops rest op us → Reads units p us right r → next ≡ b.operated so_far op right →
       SoFar units chained (link p ops) (b.joined next) ts r
   links_step ts rest us r so_far right next op s h a n =
-    once_more units ahead fit chained (link p ops) (b.joined so_far) (b.joined next) (good (many (link p ops)) gm) ts rest r (op, right) s
+      once_more units ahead fit chained (link p ops) (b.joined so_far) (b.joined next) (good (many (link p ops)) gm) ts rest r (op, right) s
       (pair (token ops) p gl rest us r op right (ate ops rest us op h) a) (λ xs. ap (λ l. b.joined l xs) (sym n))
 
   links_end : (ts rest us : List Token) (so_far : Begun) → SoFar units chained (link p ops) (b.joined so_far) ts rest → Eats ops rest None us → Reads units chained ts so_far us
   links_end ts rest us so_far s h =
-    subst (λ w. Reads units chained ts so_far w) (sym h.0)
+      subst (λ w. Reads units chained ts so_far w) (sym h.0)
       (ended_here units ahead fit chained (link p ops) (b.joined so_far) (good (many (link p ops)) gm) ts rest s (λ x r i j. h.1 x r i (subst (λ cs. IsTrue (has (number_of (symbol_of x)) cs)) fl j)))
 
   links_fail : (ts rest us r : List Token) (so_far : Begun) (op : Token) → SoFar units chained (link p ops) (b.joined so_far) ts rest → Took ops rest op us → length r ≤ length us → Fails units p us r → Fails units chained ts r
   links_fail ts rest us r so_far op s h n a =
-    failed_inside units ahead fit chained (link p ops) (b.joined so_far) (good (many (link p ops)) gm) ts rest r (taken_shorter ops rest us r op h n) s (second_fails (token ops) p gl rest us r op (ate ops rest us op h) a)
+      failed_inside units ahead fit chained (link p ops) (b.joined so_far) (good (many (link p ops)) gm) ts rest r (taken_shorter ops rest us r op h n) s (second_fails (token ops) p gl rest us r op (ate ops rest us op h) a)
 
 -- the level's chain, of what stands to the left of its first operator and what follows
 module _ (p : P Begun) (ops : List Symbol) (g : IsTrue (is_plain (seq p (many (link p ops))))) where
   chain_reads : (ts r1 r : List Token) (left v : Begun) → Reads units p ts left r1 → Reads units (give (b.joined left) (many (link p ops))) r1 v r → Reads units (chain p ops) ts v r
   chain_reads ts r1 r left v a c =
-    let w = ungive (b.joined left) (many (link p ops)) r1 r v c in
-    ok_is (chain p ops) ts r v (b.joined left w.0) w.1 (gives (λ x. b.joined x.0 x.1) (seq p (many (link p ops))) ts r (left, w.0) (pair p (many (link p ops)) g ts r1 r left w.0 a w.2))
+      let w = ungive (b.joined left) (many (link p ops)) r1 r v c in
+      ok_is (chain p ops) ts r v (b.joined left w.0) w.1 (gives (λ x. b.joined x.0 x.1) (seq p (many (link p ops))) ts r (left, w.0) (pair p (many (link p ops)) g ts r1 r left w.0 a w.2))
 
   chain_no_left : (ts r : List Token) → Fails units p ts r → Fails units (chain p ops) ts r
   chain_no_left ts r a = gives_not (λ x. b.joined x.0 x.1) (seq p (many (link p ops))) ts r (first_fails p (many (link p ops)) g ts r a)
@@ -117,19 +109,19 @@ chain_good n h = level_of n h (λ m. IsTrue (is_plain (seq (next m) (many (row m
 
 chain_at : (n : ℕ) → n < 6 → (ts r : List Token) (v : Begun) → Reads units (chain (next n) (operators_at n)) ts v r → Reads units (part_at n) ts v r
 chain_at n h ts r v a = level_of n h (λ m. Reads units (chain (next m) (operators_at m)) ts v r → Reads units (part_at m) ts v r)
-  (named or ts r v) (named and ts r v) (named eq ts r v) (named rel ts r v) (named add ts r v) (named mul ts r v) a
+    (named or ts r v) (named and ts r v) (named eq ts r v) (named rel ts r v) (named add ts r v) (named mul ts r v) a
 
 chain_not_at : (n : ℕ) → n < 6 → (ts r : List Token) → Fails units (chain (next n) (operators_at n)) ts r → Fails units (part_at n) ts r
 chain_not_at n h ts r a = level_of n h (λ m. Fails units (chain (next m) (operators_at m)) ts r → Fails units (part_at m) ts r)
-  (named_not or ts r) (named_not and ts r) (named_not eq ts r) (named_not rel ts r) (named_not add ts r) (named_not mul ts r) a
+    (named_not or ts r) (named_not and ts r) (named_not eq ts r) (named_not rel ts r) (named_not add ts r) (named_not mul ts r) a
 
 -- a fault at one level is one at each that binds less
 pub falls : (d n : ℕ) → n + d ≤ 6 → (ts r : List Token) → Fails units (part_at (n + d)) ts r → Fails units (part_at n) ts r
 falls zero n h ts r a = let e : n + 0 ≡ n = omega arith in subst (λ m. Fails units (part_at m) ts r) e a
 falls (suc d) n h ts r a =
-  let e : n + suc d ≡ (n + 1) + d = omega arith in
-  let i = falls d (n + 1) (omega arith) ts r (subst (λ m. Fails units (part_at m) ts r) e a) in
-  chain_not_at n (omega arith) ts r (chain_no_left (next n) (operators_at n) (chain_good n (omega arith)) ts r i)
+    let e : n + suc d ≡ (n + 1) + d = omega arith in
+    let i = falls d (n + 1) (omega arith) ts r (subst (λ m. Fails units (part_at m) ts r) e a) in
+    chain_not_at n (omega arith) ts r (chain_no_left (next n) (operators_at n) (chain_good n (omega arith)) ts r i)
 
 pub falls_to : (n m : ℕ) → n ≤ m → m ≤ 6 → (ts r : List Token) → Fails units (part_at m) ts r → Fails units (part_at n) ts r
 falls_to n m h i ts r a = let e : m ≡ n + (m - n) = omega arith in falls (m - n) n (omega arith) ts r (subst (λ x. Fails units (part_at x) ts r) e a)
@@ -166,8 +158,8 @@ step_reads at p h ts r1 r left v a c = level_reads (at - 1) (omega (arith, p, h)
 
 pub step_fails : (level at : ℕ) → level < at → at ≤ 6 → (ts r1 r : List Token) (left : Begun) → Reads units (part_at at) ts left r1 → Fails units (give (b.joined left) (many (link (part_at ((at - 1) + 1)) (operators_at (at - 1))))) r1 r → Fails units (part_at level) ts r
 step_fails level at p h ts r1 r left a c =
-  let q : 0 < at = omega (arith, p) in
-  falls_to level (at - 1) (omega (arith, p)) (omega (arith, h)) ts r
+    let q : 0 < at = omega (arith, p) in
+    falls_to level (at - 1) (omega (arith, p)) (omega (arith, h)) ts r
     (level_fails (at - 1) (omega (arith, q, h)) ts r1 r left (subst (λ m. Reads units (part_at m) ts left r1) (sym (lower at q)) a) c)
 
 pub at_level : (level at : ℕ) → at ≤ level → level ≤ at → (ts r : List Token) (v : Begun) → Reads units (part_at at) ts v r → Reads units (part_at level) ts v r

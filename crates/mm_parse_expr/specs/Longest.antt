@@ -1,5 +1,5 @@
 -- The longest front of an expression, the limit on its tokens, and what the parser answers by them. Own.
-use Rattle.std.specs.Prelude.{◌≡◌, ℕ, zero, suc, ◌+◌, ◌-◌, ◌<◌, ◌≤◌, Bool, if◌then◌else◌, List, [], ◌∷◌, ◌++◌, ◌⊎◌, length, take, drop, map, Result, Ok, Err}
+use Rattle.std.specs.Prelude.{◌≡◌, ℕ, suc, ◌+◌, ◌-◌, ◌<◌, ◌≤◌, Bool, if◌then◌else◌, List, [], ◌∷◌, ◌++◌, ◌⊎◌, length, take, drop, map, Result, Ok, Err}
 use Rattle.mm_grammar.specs.Grammar.{name, has, Spells, Front}
 use Rattle.mm_base.specs.declared.code.Code.{Code}
 use Rattle.mm_base.specs.declared.place.Place.{Place}
@@ -64,7 +64,7 @@ IsNotExpr tokens room end code place = (front : List Token) × (rest : List Toke
 -- The first token past the limit is in a front of an expression; or it follows the longest front, which is no expression.
 abbrev pub IsTooLong : List Token → ℕ → Code → Place → Type 0
 IsTooLong tokens room code place = (code ≡ y2) × IsPlaceAt tokens room place ×
-  (((front : List Token) × (more : List Token) × (tokens ≡ front ++ more) × Front units (name expr) front × (room < length front))
+    (((front : List Token) × (more : List Token) × (tokens ≡ front ++ more) × Front units (name expr) front × (room < length front))
     ⊎ ((front : List Token) × (rest : List Token) × IsLongestFront tokens front rest × IsNoExpr front × (length front ≡ room)))
 
 -- Where the longest front is an expression within the limit, its tree and the index after it. Else the fault.

@@ -1,6 +1,6 @@
 -- The parts of the grammar of expressions that functions of their own read. ISO/IEC 14882:1998, 5.2 to 5.15.
 use Rattle.std.specs.Prelude.{ℕ, zero, suc, List, [], ◌∷◌}
-use Rattle.mm_grammar.specs.Grammar.{seq, give, name}
+use Rattle.mm_grammar.specs.Grammar.{give, name}
 use Rattle.mm_token.specs.declared.token.Token.{Token}
 use Rattle.mm_syntax.specs.declared.symbol.Symbol.{Symbol}
 use Rattle.mm_syntax.specs.declared.symbol.Symbol.TheVariants as k

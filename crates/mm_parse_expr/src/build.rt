@@ -57,10 +57,7 @@ fn begun(alloc: Global, kind: ExprKind, start: Place) -> Result<Boxed<Begun>, Al
     Boxed::new(
         alloc,
         Begun {
-            tree: Expr {
-                kind,
-                place: start,
-            },
+            tree: Expr { kind, place: start },
             start,
         },
     )
@@ -144,11 +141,7 @@ fn unary_operator(token: &Token) -> UnaryOperator
 }
 
 /// The tree of an operator before its operand.
-pub fn prefixed(
-    alloc: Global,
-    op: &Token,
-    inner: Boxed<Begun>,
-) -> Result<Boxed<Begun>, AllocError>
+pub fn prefixed(alloc: Global, op: &Token, inner: Boxed<Begun>) -> Result<Boxed<Begun>, AllocError>
     ensures { IfOk result (λ v. v ≡ b.prefixed op.now inner) }
 {
     let inner = operand(alloc, inner)?;
@@ -213,7 +206,11 @@ pub fn operated(
     let start = left.get().start;
     let left = operand(alloc, left)?;
     let right = operand(alloc, right)?;
-    begun(alloc, ExprKind::Binary(left, binary_operator(op), op.place, right), start)
+    begun(
+        alloc,
+        ExprKind::Binary(left, binary_operator(op), op.place, right),
+        start,
+    )
 }
 
 fn assign_operator(token: &Token) -> AssignOperator
@@ -244,11 +241,7 @@ pub fn chosen(
 }
 
 /// What an assigning operator and its right side add to the left one.
-pub fn assigned(
-    alloc: Global,
-    op: &Token,
-    right: Boxed<Begun>,
-) -> Result<Boxed<End>, AllocError>
+pub fn assigned(alloc: Global, op: &Token, right: Boxed<Begun>) -> Result<Boxed<End>, AllocError>
     ensures { IfOk result (λ v. v ≡ b.assigned op.now right) }
 {
     let Begun { tree: right, .. } = right.into_inner();
@@ -316,7 +309,10 @@ pub fn member(
         None => None,
         Some(class) => Some(name(alloc, class)?),
     };
-    Boxed::new(alloc, Suffix::Member(member_operator(op), op.place, class, word))
+    Boxed::new(
+        alloc,
+        Suffix::Member(member_operator(op), op.place, class, word),
+    )
 }
 
 /// A call's arguments as a suffix.

@@ -7,6 +7,8 @@ ghost use Rattle.mm_parse_expr.specs.Longest.{IsPlaceAt, OneTree, Parses, Parses
 mod build;
 mod limit;
 pub mod parser;
+#[cfg(test)]
+mod tests;
 
 use mm_base::code::Code;
 use mm_base::place::Place;
@@ -107,5 +109,4 @@ fn place_at(tokens: &[Token], at: usize) -> Place
 /// Tokens are the text of at most one expression.
 pub fn one_tree()
     ensures { OneTree }
-{
-}
+{}

@@ -12,7 +12,10 @@ const MOST: usize = 1000;
 fn ends_count(token: &Token) -> bool
     ensures { result ≡ ends_count token.now }
 {
-    matches!(classify(token), Symbol::Semicolon | Symbol::OpenBrace | Symbol::CloseBrace)
+    matches!(
+        classify(token),
+        Symbol::Semicolon | Symbol::OpenBrace | Symbol::CloseBrace
+    )
 }
 
 /// How many tokens may stand from this one on. It looks back at no more than so many.

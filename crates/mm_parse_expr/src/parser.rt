@@ -64,7 +64,12 @@ fn operators(level: usize) -> &'static [Symbol]
         0 => &[Symbol::OrOr],
         1 => &[Symbol::AndAnd],
         2 => &[Symbol::EqualEqual, Symbol::NotEqual],
-        3 => &[Symbol::Less, Symbol::Greater, Symbol::LessEqual, Symbol::GreaterEqual],
+        3 => &[
+            Symbol::Less,
+            Symbol::Greater,
+            Symbol::LessEqual,
+            Symbol::GreaterEqual,
+        ],
         4 => &[Symbol::Plus, Symbol::Minus],
         _ => &[Symbol::Star, Symbol::Slash, Symbol::Percent],
     }
@@ -89,7 +94,12 @@ fn chain(alloc: Global, cursor: &mut Cursor<'_>, level: usize) -> Result<Boxed<B
 
 /// The operators of this level that follow what stands to their left, each with its right operand.
 #[cycle(expr)]
-fn links(alloc: Global, cursor: &mut Cursor<'_>, level: usize, left: Boxed<Begun>) -> Result<Boxed<Begun>, Stop>
+fn links(
+    alloc: Global,
+    cursor: &mut Cursor<'_>,
+    level: usize,
+    left: Boxed<Begun>,
+) -> Result<Boxed<Begun>, Stop>
     requires { level < 6 }
     ensures reads { Answers (give (b.joined left) (many (link (part_at (level + 1)) (operators_at level)))) cursor.old result cursor.new }
     ensures shorter { length cursor.new ≤ length cursor.old }

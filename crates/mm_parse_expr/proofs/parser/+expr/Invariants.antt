@@ -1,4 +1,4 @@
-use Rattle.std.proofs.Common.{◌≡◌, ◌<◌, ◌≤◌, ◌∷◌, [], ◌++◌, List, length, ◌+◌, ◌-◌, ◌*◌}
+use Rattle.std.proofs.Common.{◌≤◌, length, ◌+◌, ◌*◌}
 use Rattle.mm_grammar.specs.Grammar.{Reads}
 use Rattle.mm_syntax.specs.Rules.{units}
 use Rattle.mm_parse_expr.specs.Parts.{part_at}
