@@ -9,6 +9,4 @@ pub mod part;
 pub mod stmt;
 pub mod symbol;
 pub mod taken;
-#[cfg(test)]
-mod tests;
 pub mod walk;
