@@ -7,8 +7,6 @@ ghost use Rattle.mm_parse_expr.specs.Longest.{IsPlaceAt, OneTree, Parses, Parses
 mod build;
 mod limit;
 pub mod parser;
-#[cfg(test)]
-mod tests;
 
 use mm_base::code::Code;
 use mm_base::place::Place;

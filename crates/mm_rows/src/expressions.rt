@@ -17,8 +17,8 @@ enum Found {
     Nothing,
 }
 
-fn read_expression(alloc: Global, text: &str, at: usize) -> Result<Found, AllocError> {
-    let bytes = Vec::from_slice(alloc, text.as_bytes())?;
+fn read_expression(alloc: Global, text: &[u8], at: usize) -> Result<Found, AllocError> {
+    let bytes = Vec::from_slice(alloc, text)?;
     let mut held = Vec::new(alloc);
     held.push((String::from_str(alloc, "m.cc")?, bytes))?;
     let mut files = SureFiles { held };
@@ -33,6 +33,22 @@ fn read_expression(alloc: Global, text: &str, at: usize) -> Result<Found, AllocE
         Err(ParseEnd::Fault(code, place)) => Ok(Found::Fault(code.number, place.col)),
         Err(ParseEnd::NoMemory) => Ok(Found::Nothing),
     }
+}
+
+// A mark so many times, a name, and another mark so many times.
+fn nested(
+    alloc: Global,
+    before: u8,
+    count: usize,
+    after: u8,
+    closed: usize,
+) -> Result<Vec<u8>, AllocError> {
+    let mut text = Vec::new(alloc);
+    text.resize(count, before)?;
+    text.push(b'x')?;
+    let length = text.len();
+    text.resize(length.saturating_add(closed), after)?;
+    Ok(text)
 }
 
 #[test]
@@ -54,7 +70,10 @@ fn each_form_of_expression_is_read_to_its_end(rt: HostRuntime) -> Result<(), Fai
         ("class K ; dynamic_cast < K * > ( p ) -> m", 3, 13),
     ];
     for (text, at, end) in rows {
-        assert_eq!(rt; read_expression(rt.alloc(), text, at)?, Found::Ends(end));
+        assert_eq!(rt;
+            read_expression(rt.alloc(), text.as_bytes(), at)?,
+            Found::Ends(end)
+        );
     }
     Ok(())
 }
@@ -83,9 +102,26 @@ fn a_fault_is_at_the_first_token_with_which_no_expression_goes_on(
     ];
     for (text, at, column) in rows {
         assert_eq!(rt;
-            read_expression(rt.alloc(), text, at)?,
+            read_expression(rt.alloc(), text.as_bytes(), at)?,
             Found::Fault(1, column)
         );
+    }
+    Ok(())
+}
+
+#[test]
+fn expressions_nest_as_deep_as_the_limit_and_no_deeper(rt: HostRuntime) -> Result<(), Fail> {
+    let rows = [
+        (b'!', 999, b';', 1, Found::Ends(1000)),
+        (b'(', 999, b')', 0, Found::Fault(1, 1001)),
+        (b'(', 499, b')', 499, Found::Ends(999)),
+        (b'!', 1000, b';', 1, Found::Fault(2, 1001)),
+        (b'(', 3000, b')', 3000, Found::Fault(2, 1001)),
+        (b'(', 1, b';', 1, Found::Fault(1, 3)),
+    ];
+    for (before, count, after, closed, wanted) in rows {
+        let text = nested(rt.alloc(), before, count, after, closed)?;
+        assert_eq!(rt; read_expression(rt.alloc(), text.as_slice(), 0)?, wanted);
     }
     Ok(())
 }
