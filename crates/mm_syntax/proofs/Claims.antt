@@ -29,9 +29,9 @@ abbrev pub begin_stmt : List Symbol
 begin_stmt = k.OpenBrace ∷ k.Semicolon ∷ k.If ∷ k.While ∷ k.Do ∷ k.For ∷ k.Break ∷ k.Continue ∷ k.Return ∷ (begin_type ++ begin_unary)
 
 abbrev pub firsts : Rule → List Symbol
-firsts unit = begin_decl
-firsts decl = begin_decl
-firsts item = accesses ++ k.Virtual ∷ k.Tilde ∷ begin_type
+firsts (unit n) = begin_decl
+firsts (decl n) = begin_decl
+firsts (item n) = accesses ++ k.Virtual ∷ k.Tilde ∷ begin_type
 firsts params = begin_param
 firsts param = begin_param
 firsts inits = k.Colon ∷ []
@@ -75,8 +75,8 @@ abbrev pub after_param : List Symbol
 after_param = k.Int ∷ k.Star ∷ k.And ∷ k.Word ∷ []
 
 abbrev pub follows : Rule → List Symbol
-follows unit = begin_decl
-follows item = k.Semicolon ∷ []
+follows (unit n) = begin_decl
+follows (item n) = k.Semicolon ∷ []
 follows params = k.Comma ∷ (after_param ++ begin_param)
 follows param = after_param
 follows inits = k.Comma ∷ []
@@ -103,9 +103,9 @@ follows_value x v = follows x
 -- ---- second tokens after a class
 
 abbrev pub seconds : Rule → List Symbol
-seconds unit = k.Scope ∷ k.Class ∷ k.Star ∷ k.And ∷ k.Word ∷ []
-seconds decl = k.Scope ∷ k.Class ∷ k.Star ∷ k.And ∷ k.Word ∷ []
-seconds item = k.Open ∷ k.Star ∷ k.And ∷ k.Word ∷ []
+seconds (unit n) = k.Scope ∷ k.Class ∷ k.Star ∷ k.And ∷ k.Word ∷ []
+seconds (decl n) = k.Scope ∷ k.Class ∷ k.Star ∷ k.And ∷ k.Word ∷ []
+seconds (item n) = k.Open ∷ k.Star ∷ k.And ∷ k.Word ∷ []
 seconds params = k.Comma ∷ k.Star ∷ k.And ∷ k.Word ∷ []
 seconds param = k.Star ∷ k.And ∷ k.Word ∷ []
 seconds inits = []
@@ -125,7 +125,7 @@ is_alone type_name = true
 is_alone _ = false
 
 abbrev pub may_be_empty : Rule → Bool
-may_be_empty unit = true
+may_be_empty (unit n) = true
 may_be_empty params = true
 may_be_empty _ = false
 
@@ -146,9 +146,9 @@ ahead = record {
 -- ---- checked against the rules
 
 pub claims : (x : Rule) → IsTrue (fits units ahead x)
-claims unit = refl
-claims decl = refl
-claims item = refl
+claims (unit n) = refl
+claims (decl n) = refl
+claims (item n) = refl
 claims params = refl
 claims param = refl
 claims inits = refl

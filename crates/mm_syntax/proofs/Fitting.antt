@@ -34,9 +34,9 @@ sealed_stmt : (n : ℕ) → Sealed units ahead (rule_of (stmt (suc n)))
 sealed_stmt n = (tt, (tt, (no_tail simple_stmt refl, (sealed_if n, (no_tail (while_stmt n) refl, (no_tail (do_stmt n) refl, (no_tail (for_stmt n) refl, (no_tail break_stmt refl, (no_tail continue_stmt refl, no_tail return_stmt refl)))))))))
 
 sealed_at : (x : Rule) → Sealed units ahead (rule_of x)
-sealed_at unit = no_tail (rule_of unit) refl
-sealed_at decl = no_tail (rule_of decl) refl
-sealed_at item = no_tail (rule_of item) refl
+sealed_at (unit n) = no_tail (rule_of (unit n)) refl
+sealed_at (decl n) = no_tail (rule_of (decl n)) refl
+sealed_at (item n) = no_tail (rule_of (item n)) refl
 sealed_at params = no_tail (rule_of params) refl
 sealed_at param = no_tail (rule_of param) refl
 sealed_at inits = no_tail (rule_of inits) refl
@@ -159,9 +159,9 @@ after_none c v f = absurd f.2
 
 after_at : (x : Rule) (v : Value x) (c : ℕ) → Follows units ahead (rule_of x) v c → IsTrue (has c (map number_of (follows_value x v)))
 unfolding Goes
-after_at unit v c f = plain_after units ahead unit (claims unit) v c f
-after_at decl v c f = plain_after units ahead decl (claims decl) v c f
-after_at item v c f = plain_after units ahead item (claims item) v c f
+after_at (unit n) v c f = plain_after units ahead (unit n) (claims (unit n)) v c f
+after_at (decl n) v c f = plain_after units ahead (decl n) (claims (decl n)) v c f
+after_at (item n) v c f = plain_after units ahead (item n) (claims (item n)) v c f
 after_at params v c f = plain_after units ahead params (claims params) v c f
 after_at param v c f = plain_after units ahead param (claims param) v c f
 after_at inits v c f = plain_after units ahead inits (claims inits) v c f

@@ -52,16 +52,16 @@ use Rattle.mm_syntax.specs.BuiltStatements as bs
 use Rattle.mm_syntax.specs.BuiltDeclarations as bd
 
 pub data Rule : Type 0 where
-  unit decl item params param inits init : Rule
-  -- a block, and a statement, in which so many statements may stand one inside the other
-  block stmt : ℕ → Rule
+  -- each in which so many statements may stand one inside the other
+  unit decl item block stmt : ℕ → Rule
+  params param inits init : Rule
   var declarator type_name args : Rule
   expr or and eq rel add mul unary postfix primary : Rule
 
 abbrev pub Value : Rule → Type 0
-Value unit = List Decl
-Value decl = Decl
-Value item = Member
+Value (unit n) = List Decl
+Value (decl n) = Decl
+Value (item n) = Member
 Value params = Params
 Value param = Param
 Value inits = List Init
@@ -252,13 +252,6 @@ return_stmt = give (λ v. bs.returned v.0 v.1) (seq (token (k.Return ∷ [])) (m
 
 -- ---- functions
 
--- how many statements may stand one inside the other
-abbrev pub nesting : ℕ
-nesting = 200
-
-abbrev pub body : P Stmt
-body = name (block nesting)
-
 -- ( params )
 abbrev pub parameters : P Params
 parameters = token (k.Open ∷ []) ▸ name params ◂ token (k.Close ∷ [])
@@ -297,29 +290,29 @@ some_params = alt
     (give (λ v. bd.params_of (v.0 ∷ v.1)) (seq other_param more_params))
 
 -- ; or block
-abbrev pub function_body : P (Option Stmt)
-function_body = alt (give (λ t. None) (token (k.Semicolon ∷ []))) (give (λ v. Some v) body)
+abbrev pub function_body : ℕ → P (Option Stmt)
+function_body n = alt (give (λ t. None) (token (k.Semicolon ∷ []))) (give (λ v. Some v) (name (block n)))
 
 -- what follows the mark of a function: W ( params ) (; | block), or K :: W ( params ) block
-abbrev pub function_end : P FunctionEnd
-function_end = alt
-    (give (λ v. end_of.Plain (b.name_of v.0) v.1.0 v.1.1) (seq (token (k.Word ∷ [])) (seq parameters function_body)))
-    (give (λ v. end_of.Member (b.name_of v.0) (b.name_of v.1.0) v.1.1.0 v.1.1.1) (seq scope (seq (token (k.Word ∷ [])) (seq parameters body))))
+abbrev pub function_end : ℕ → P FunctionEnd
+function_end n = alt
+    (give (λ v. end_of.Plain (b.name_of v.0) v.1.0 v.1.1) (seq (token (k.Word ∷ [])) (seq parameters (function_body n))))
+    (give (λ v. end_of.Member (b.name_of v.0) (b.name_of v.1.0) v.1.1.0 v.1.1.1) (seq scope (seq (token (k.Word ∷ [])) (seq parameters (name (block n))))))
 
 -- what follows the type of a function
-abbrev pub after_type : P Declared
-after_type = give (λ v. bd.declared v.0 v.1) (seq (opt mark) function_end)
+abbrev pub after_type : ℕ → P Declared
+after_type n = give (λ v. bd.declared v.0 v.1) (seq (opt mark) (function_end n))
 
 -- inits? block
-abbrev pub constructor_body : P ConstructorBody
-constructor_body = give (λ v. bd.constructor_body v.0 v.1) (seq (opt (name inits)) body)
+abbrev pub constructor_body : ℕ → P ConstructorBody
+constructor_body n = give (λ v. bd.constructor_body v.0 v.1) (seq (opt (name inits)) (name (block n)))
 
 -- what follows K in a definition of its constructor: :: K ( params ) inits? block
-abbrev pub constructor_end : P AfterClass
-constructor_end = give (λ v. after_class.Constructor (b.name_of v.0) v.1.0 v.1.1) (token (k.Scope ∷ []) ▸ seq (token (k.Class ∷ [])) (seq parameters constructor_body))
+abbrev pub constructor_end : ℕ → P AfterClass
+constructor_end n = give (λ v. after_class.Constructor (b.name_of v.0) v.1.0 v.1.1) (token (k.Scope ∷ []) ▸ seq (token (k.Class ∷ [])) (seq parameters (constructor_body n)))
 
-abbrev pub after_class_name : P AfterClass
-after_class_name = alt (give (λ v. after_class.Type v) after_type) constructor_end
+abbrev pub after_class_name : ℕ → P AfterClass
+after_class_name n = alt (give (λ v. after_class.Type v) (after_type n)) (constructor_end n)
 
 -- ---- classes
 
@@ -338,42 +331,42 @@ base = alt
 abbrev pub bases : P (List Base)
 bases = give (λ v. v.0 ∷ v.1) (token (k.Colon ∷ []) ▸ seq base (many (token (k.Comma ∷ []) ▸ base)))
 
-abbrev pub items : P (List Member)
-items = token (k.OpenBrace ∷ []) ▸ many (name item) ◂ token (k.CloseBrace ∷ [])
+abbrev pub items : ℕ → P (List Member)
+items n = token (k.OpenBrace ∷ []) ▸ many (name (item n)) ◂ token (k.CloseBrace ∷ [])
 
 -- bases? { item* }
-abbrev pub class_body : P ClassBody
-class_body = give (λ v. bd.class_body v.0 v.1) (seq (opt bases) items)
+abbrev pub class_body : ℕ → P ClassBody
+class_body n = give (λ v. bd.class_body v.0 v.1) (seq (opt bases) (items n))
 
 -- (class | struct) K, and a body where the class is defined
-abbrev pub class_head : P (Token × (Token × Option ClassBody))
-class_head = seq (token (k.ClassKey ∷ k.StructKey ∷ [])) (seq (token (k.Class ∷ [])) (opt class_body))
+abbrev pub class_head : ℕ → P (Token × (Token × Option ClassBody))
+class_head n = seq (token (k.ClassKey ∷ k.StructKey ∷ [])) (seq (token (k.Class ∷ [])) (opt (class_body n)))
 
 -- a block in a class, after which a `;` may stand
-abbrev pub method_body : P Stmt
-method_body = body ◂ opt (token (k.Semicolon ∷ []))
+abbrev pub method_body : ℕ → P Stmt
+method_body n = name (block n) ◂ opt (token (k.Semicolon ∷ []))
 
 -- ( params ) (; | block ;?)
-abbrev pub method_end : P (Params × Option Stmt)
-method_end = seq parameters (alt (give (λ t. None) (token (k.Semicolon ∷ []))) (give (λ v. Some v) method_body))
+abbrev pub method_end : ℕ → P (Params × Option Stmt)
+method_end n = seq parameters (alt (give (λ t. None) (token (k.Semicolon ∷ []))) (give (λ v. Some v) (method_body n)))
 
 -- , (* | &)? W
 abbrev pub next_field : P FieldName
 next_field = give (λ v. bd.field_name v.0 v.1) (token (k.Comma ∷ []) ▸ seq (opt mark) (token (k.Word ∷ [])))
 
 -- what follows the name of a member function, or of a field
-abbrev pub member_end : P MemberEnd
-member_end = alt
-    (give (λ v. member_is.Function v.0 v.1) method_end)
+abbrev pub member_end : ℕ → P MemberEnd
+member_end n = alt
+    (give (λ v. member_is.Function v.0 v.1) (method_end n))
     (give (λ v. member_is.Fields v) (many next_field ◂ token (k.Semicolon ∷ [])))
 
 -- what follows the type of a member
-abbrev pub member_tail : P MemberTail
-member_tail = give (λ v. bd.member_tail v.0 v.1.0 v.1.1) (seq (opt mark) (seq (token (k.Word ∷ [])) member_end))
+abbrev pub member_tail : ℕ → P MemberTail
+member_tail n = give (λ v. bd.member_tail v.0 v.1.0 v.1.1) (seq (opt mark) (seq (token (k.Word ∷ [])) (member_end n)))
 
 -- what follows the type of a member function
-abbrev pub method_tail : P MethodTail
-method_tail = give (λ v. bd.method_tail v.0 v.1.0 v.1.1.0 v.1.1.1) (seq (opt mark) (seq (token (k.Word ∷ [])) method_end))
+abbrev pub method_tail : ℕ → P MethodTail
+method_tail n = give (λ v. bd.method_tail v.0 v.1.0 v.1.1.0 v.1.1.1) (seq (opt mark) (seq (token (k.Word ∷ [])) (method_end n)))
 
 -- ~ K ( void? ) { } ;?
 abbrev pub destructor : P DestructorTail
@@ -381,42 +374,42 @@ destructor = give (λ v. bd.destructor_tail v.0 v.1.0 v.1.1)
     (seq (token (k.Tilde ∷ [])) (seq (token (k.Class ∷ [])) (token (k.Open ∷ []) ▸ opt (token (k.Void ∷ [])) ◂ token (k.Close ∷ []) ◂ token (k.OpenBrace ∷ []) ◂ token (k.CloseBrace ∷ []) ◂ opt (token (k.Semicolon ∷ [])))))
 
 -- what follows `virtual`
-abbrev pub after_virtual : P AfterVirtual
-after_virtual = alt
+abbrev pub after_virtual : ℕ → P AfterVirtual
+after_virtual n = alt
     (give (λ v. virtual_is.Destructor v) destructor)
-    (give (λ v. virtual_is.Method v.0 v.1) (seq (name type_name) method_tail))
+    (give (λ v. virtual_is.Method v.0 v.1) (seq (name type_name) (method_tail n)))
 
 -- what follows K in a declaration of its constructor: ( params ) (; | inits? block ;?)
-abbrev pub constructor_tail : P ConstructorTail
-constructor_tail = give (λ v. bd.constructor_tail v.0 v.1)
-    (seq parameters (alt (give (λ t. None) (token (k.Semicolon ∷ []))) (give (λ v. Some v) (constructor_body ◂ opt (token (k.Semicolon ∷ []))))))
+abbrev pub constructor_tail : ℕ → P ConstructorTail
+constructor_tail n = give (λ v. bd.constructor_tail v.0 v.1)
+    (seq parameters (alt (give (λ t. None) (token (k.Semicolon ∷ []))) (give (λ v. Some v) (constructor_body n ◂ opt (token (k.Semicolon ∷ []))))))
 
 -- what follows K at the start of a member
-abbrev pub after_member_class : P AfterMemberClass
-after_member_class = alt (give (λ v. class_is.Type v) member_tail) (give (λ v. class_is.Constructor v) constructor_tail)
+abbrev pub after_member_class : ℕ → P AfterMemberClass
+after_member_class n = alt (give (λ v. class_is.Type v) (member_tail n)) (give (λ v. class_is.Constructor v) (constructor_tail n))
 
 -- ---- the rules
 
 abbrev pub rule_of : (x : Rule) → P (Value x)
-rule_of unit = many (name decl)
+rule_of (unit n) = many (name (decl n))
 -- classdecl, classdef, fndecl, fndef and memberdef. The first two begin alike, and so do the others, with a type;
 -- where that is K, a constructor begins alike too.
-rule_of decl = alt
-    (give (λ v. bd.class_decl v.0 v.1.0 v.1.1.0 v.1.1.1) (kept class_head ◂ token (k.Semicolon ∷ [])))
+rule_of (decl n) = alt
+    (give (λ v. bd.class_decl v.0 v.1.0 v.1.1.0 v.1.1.1) (kept (class_head n) ◂ token (k.Semicolon ∷ [])))
     (alt
-    (give (λ v. bd.typed v.0 v.1) (seq (alt void_type number_type) after_type))
-    (give (λ v. bd.after v.0 v.1) (seq (token (k.Class ∷ [])) after_class_name)))
+    (give (λ v. bd.typed v.0 v.1) (seq (alt void_type number_type) (after_type n)))
+    (give (λ v. bd.after v.0 v.1) (seq (token (k.Class ∷ [])) (after_class_name n))))
 -- access `:`, fields, memberfn, destructor and constructor. Fields and functions begin alike, with a type; where
 -- that is K, a constructor begins alike too; and `virtual` begins a function or a destructor.
-rule_of item = alt
+rule_of (item n) = alt
     (give (λ t. m.Access (bd.access_of t)) (token accesses ◂ token (k.Colon ∷ [])))
     (alt
-    (give (λ v. bd.virtual_member v.0 v.1) (seq (token (k.Virtual ∷ [])) after_virtual))
+    (give (λ v. bd.virtual_member v.0 v.1) (seq (token (k.Virtual ∷ [])) (after_virtual n)))
     (alt
     (give bd.destructor destructor)
     (alt
-    (give (λ v. bd.typed_member v.0 v.1) (seq (alt void_type number_type) member_tail))
-    (give (λ v. bd.after_in_class v.0 v.1) (seq (token (k.Class ∷ [])) after_member_class)))))
+    (give (λ v. bd.typed_member v.0 v.1) (seq (alt void_type number_type) (member_tail n)))
+    (give (λ v. bd.after_in_class v.0 v.1) (seq (token (k.Class ∷ [])) (after_member_class n))))))
 -- `void` stands alone, or begins the first parameter.
 rule_of params = give bd.given_params (opt some_params)
 rule_of param = alt (give (λ v. bd.param None v.0 v.1) (seq void_type void_end)) other_param
