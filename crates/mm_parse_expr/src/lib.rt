@@ -5,7 +5,7 @@ ghost use Rattle.std.specs.Prelude.{◌≡◌, ◌<◌, ◌≤◌, ◌+◌, ◌^
 ghost use Rattle.mm_parse_expr.specs.Longest.{IsPlaceAt, OneTree, Parses, ParsesFrom, place_of};
 
 mod build;
-mod limit;
+pub mod limit;
 pub mod parser;
 
 use mm_base::code::Code;

@@ -7,9 +7,10 @@ use mm_syntax::symbol::{Symbol, classify};
 use mm_token::token::Token;
 
 /// The most tokens that may follow a `;`, `{` or `}` without another one.
-const MOST: usize = 1000;
+pub const MOST: usize = 1000;
 
-fn ends_count(token: &Token) -> bool
+/// Whether the count of tokens begins anew after this one: at `;`, `{` and `}`.
+pub fn ends_count(token: &Token) -> bool
     ensures { result ≡ ends_count token.now }
 {
     matches!(

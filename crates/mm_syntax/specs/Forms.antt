@@ -1,5 +1,5 @@
 -- The forms of trees, by which a unit's parts are built one after another. Own.
-use Rattle.std.specs.Prelude.{ℕ, Bool, true, false, ◌&&◌, not, if◌then◌else◌, List, [], ◌∷◌, ◌++◌, map, Option, Some, None, codes, ◌==◌}
+use Rattle.std.specs.Prelude.{ℕ, Bool, true, false, ◌&&◌, not, if◌then◌else◌, List, [], ◌∷◌, ◌++◌, map, Option, Some, None, codes}
 use Rattle.std.specs.List.{flat_map}
 use Rattle.std.specs.Str.{bytes_eq}
 use Rattle.mm_base.specs.declared.place.Place.{Place}
@@ -40,6 +40,7 @@ use Rattle.mm_syntax.specs.declared.decl.DeclKind.{DeclKind}
 use Rattle.mm_syntax.specs.declared.decl.DeclKind.TheVariants as d
 use Rattle.mm_syntax.specs.declared.decl.Unit.{Unit as UnitTree}
 use Rattle.mm_syntax.specs.declared.walk.Form.{Form}
+use Rattle.mm_syntax.specs.declared.walk.Forms.{Forms as FormSet}
 use Rattle.mm_syntax.specs.declared.walk.Form.TheVariants as form
 use Rattle.mm_syntax.specs.declared.walk.Built.{Built}
 use Rattle.mm_syntax.specs.declared.walk.Built.TheVariants as built
@@ -334,14 +335,28 @@ shown_unit x = plain (unit_built (map shown_decl x.decls)) x.place (map shown_de
 
 -- ---- the first tree of a form
 
-abbrev pub form_number : Form → ℕ
-form_number form.Scalar = 0
-form_number form.Object = 1
-form_number form.Virtual = 2
-form_number form.Open = 3
-form_number form.Construct = 4
-form_number form.Cast = 5
+-- the form is in the set
+abbrev pub is_among : FormSet → Form → Bool
+is_among forms form.Scalar = forms.scalars
+is_among forms form.Object = forms.objects
+is_among forms form.Virtual = forms.virtuals
+is_among forms form.Open = forms.opens
+is_among forms form.Construct = forms.constructs
+is_among forms form.Cast = forms.casts
 
-abbrev pub first_of : Form → List Mark → Option Place
-first_of own [] = None
-first_of own (x ∷ xs) = if form_number x.form == form_number own then Some x.place else first_of own xs
+abbrev pub all_forms : FormSet
+all_forms = record { scalars = true; objects = true; virtuals = true; opens = true; constructs = true; casts = true }
+
+-- the set of this form alone
+abbrev pub only : Form → FormSet
+only form.Scalar = record { scalars = true; objects = false; virtuals = false; opens = false; constructs = false; casts = false }
+only form.Object = record { scalars = false; objects = true; virtuals = false; opens = false; constructs = false; casts = false }
+only form.Virtual = record { scalars = false; objects = false; virtuals = true; opens = false; constructs = false; casts = false }
+only form.Open = record { scalars = false; objects = false; virtuals = false; opens = true; constructs = false; casts = false }
+only form.Construct = record { scalars = false; objects = false; virtuals = false; opens = false; constructs = true; casts = false }
+only form.Cast = record { scalars = false; objects = false; virtuals = false; opens = false; constructs = false; casts = true }
+
+-- the place of the first tree whose form is in the set
+abbrev pub first_of : FormSet → List Mark → Option Place
+first_of forms [] = None
+first_of forms (x ∷ xs) = if is_among forms x.form then Some x.place else first_of forms xs

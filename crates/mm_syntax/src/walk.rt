@@ -2,7 +2,7 @@
 
 ghost use Rattle.std.specs.List.{flat_map};
 ghost use Rattle.std.specs.Prelude.{◌≡◌, ◌&&◌, not, ◌∷◌, [], ◌++◌, List, map};
-ghost use Rattle.mm_syntax.specs.Forms.{form_number, is_built, is_sum, is_number, is_plus, is_callee, is_statement, is_block, is_type, number_built, name_built, sum_built, run_built, return_built, only_if, call_built, shown_expr, Shown, made_shown, call_shown, plain, shown_type, maybe_expr, mark_or, declarator_shown, variables_shown, start_shown, block_built, return_shown, shown_stmt, param_shown, head_shown, is_main, function_built, init_shown, body_shown, maybe_body, maybe_block, method_form, shown_fn, member_shown, shown_class, shown_decl, shown_unit, first_of, of_form, fn_shown};
+ghost use Rattle.mm_syntax.specs.Forms.{is_among, only, all_forms, is_built, is_sum, is_number, is_plus, is_callee, is_statement, is_block, is_type, number_built, name_built, sum_built, run_built, return_built, only_if, call_built, shown_expr, Shown, made_shown, call_shown, plain, shown_type, maybe_expr, mark_or, declarator_shown, variables_shown, start_shown, block_built, return_shown, shown_stmt, param_shown, head_shown, is_main, function_built, init_shown, body_shown, maybe_body, maybe_block, method_form, shown_fn, member_shown, shown_class, shown_decl, shown_unit, first_of, of_form, fn_shown};
 ghost use Rattle.mm_syntax.specs.declared.walk.Built.TheVariants.{Call, Nothing};
 ghost use Rattle.mm_syntax.specs.Walk.{seen, inside, next, no_tree, one_tree, two_trees, three_trees, formed, plainly, unary_seen, Adds};
 
@@ -51,14 +51,14 @@ pub enum Built {
     Function,
 }
 
-/// What a walk has seen of a tree: the first place of the wanted form, and which tree of the first texts it is.
+/// What a walk has seen of a tree: the first place of a wanted form, and which tree of the first texts it is.
 #[derive(Clone, Copy, Debug)]
 struct Seen {
     first: Option<Place>,
     built: Built,
 }
 
-/// What a walk has seen of the trees inside another: the first place of the wanted form, whether each is a tree of the
+/// What a walk has seen of the trees inside another: the first place of a wanted form, whether each is a tree of the
 /// first texts, and whether each is a statement of them.
 #[derive(Clone, Copy, Debug)]
 struct Inside {
@@ -67,10 +67,62 @@ struct Inside {
     all_statements: bool,
 }
 
-fn form_code(form: Form) -> u32
-    ensures { result ≡ form_number form }
-{
-    form as u32
+/// A set of forms: which of them are in it.
+#[derive(Clone, Copy, Debug, PartialEq, Eq)]
+pub struct Forms {
+    pub scalars: bool,
+    pub objects: bool,
+    pub virtuals: bool,
+    pub opens: bool,
+    pub constructs: bool,
+    pub casts: bool,
+}
+
+impl Forms {
+    ghost use Rattle.std.specs.Prelude.{◌≡◌};
+    ghost use Rattle.mm_syntax.specs.Forms.{is_among, only, all_forms};
+
+    /// Every form.
+    pub fn all() -> Forms
+        ensures { result ≡ all_forms }
+    {
+        Forms {
+            scalars: true,
+            objects: true,
+            virtuals: true,
+            opens: true,
+            constructs: true,
+            casts: true,
+        }
+    }
+
+    /// This form alone.
+    pub fn only(form: Form) -> Forms
+        ensures { result ≡ only form }
+    {
+        Forms {
+            scalars: matches!(form, Form::Scalar),
+            objects: matches!(form, Form::Object),
+            virtuals: matches!(form, Form::Virtual),
+            opens: matches!(form, Form::Open),
+            constructs: matches!(form, Form::Construct),
+            casts: matches!(form, Form::Cast),
+        }
+    }
+
+    /// Whether the form is in the set.
+    pub fn has(self, form: Form) -> bool
+        ensures { result ≡ is_among self form }
+    {
+        match form {
+            Form::Scalar => self.scalars,
+            Form::Object => self.objects,
+            Form::Virtual => self.virtuals,
+            Form::Open => self.opens,
+            Form::Construct => self.constructs,
+            Form::Cast => self.casts,
+        }
+    }
 }
 
 impl Built {
@@ -145,10 +197,10 @@ fn three(a: Seen, b: Seen, c: Seen) -> Inside
 }
 
 /// A tree of a form, with these inside it.
-fn of_form(wanted: Form, own: Form, place: Place, inside: Inside) -> Seen
+fn of_form(wanted: Forms, own: Form, place: Place, inside: Inside) -> Seen
     ensures { result ≡ formed wanted own place inside }
 {
-    let first = if form_code(own) == form_code(wanted) {
+    let first = if wanted.has(own) {
         Some(place)
     } else {
         inside.first
@@ -160,11 +212,11 @@ fn of_form(wanted: Form, own: Form, place: Place, inside: Inside) -> Seen
 }
 
 /// Any other tree, with these inside it.
-fn plain(wanted: Form, own: Built, place: Place, inside: Inside) -> Seen
+fn plain(wanted: Forms, own: Built, place: Place, inside: Inside) -> Seen
     ensures { result ≡ plainly wanted own place inside }
 {
     let is_scalar = !own.is_tree() && inside.all_built;
-    let first = if is_scalar && form_code(wanted) == 0 {
+    let first = if is_scalar && wanted.has(Form::Scalar) {
         Some(place)
     } else {
         inside.first
@@ -202,7 +254,7 @@ fn call_tree(callee: Built, argument: Built) -> Built
     )
 }
 
-fn unary(wanted: Form, operator: UnaryOperator, place: Place, operand: Seen) -> Seen
+fn unary(wanted: Forms, operator: UnaryOperator, place: Place, operand: Seen) -> Seen
     ensures { result ≡ unary_seen wanted operator place (one_tree operand) }
 {
     match operator {
@@ -217,49 +269,49 @@ fn unary(wanted: Form, operator: UnaryOperator, place: Place, operand: Seen) -> 
 }
 
 /// The first tree inside another.
-fn start(wanted: Form, tree: Seen) -> Inside
+fn start(wanted: Forms, tree: Seen) -> Inside
     ensures { (x : Shown) → tree ≡ seen wanted x → result ≡ inside wanted (x ∷ []) }
 {
     one(tree)
 }
 
 /// One tree after others.
-fn after(wanted: Form, before: Inside, tree: Seen) -> Inside
+fn after(wanted: Forms, before: Inside, tree: Seen) -> Inside
     ensures { (x : Shown) → tree ≡ seen wanted x → Adds wanted before (x ∷ []) result }
 {
     before.and(tree)
 }
 
 /// A tree that is of no form but `Scalar`, with these inside it.
-fn whole(wanted: Form, own: Built, place: Place, all: Inside) -> Seen
+fn whole(wanted: Forms, own: Built, place: Place, all: Inside) -> Seen
     ensures { (xs : List Shown) → all ≡ inside wanted xs → result ≡ seen wanted (plain own place xs) }
 {
     plain(wanted, own, place, all)
 }
 
 /// A tree of a form, with these inside it.
-fn whole_form(wanted: Form, own: Form, place: Place, all: Inside) -> Seen
+fn whole_form(wanted: Forms, own: Form, place: Place, all: Inside) -> Seen
     ensures { (xs : List Shown) → all ≡ inside wanted xs → result ≡ seen wanted (of_form own place xs) }
 {
     of_form(wanted, own, place, all)
 }
 
 /// A tree that is of no form but `Scalar`, with two trees inside it.
-fn pair(wanted: Form, own: Built, place: Place, a: Seen, b: Seen) -> Seen
+fn pair(wanted: Forms, own: Built, place: Place, a: Seen, b: Seen) -> Seen
     ensures { (x y : Shown) → a ≡ seen wanted x → b ≡ seen wanted y → result ≡ seen wanted (plain own place (x ∷ y ∷ [])) }
 {
     plain(wanted, own, place, two(a, b))
 }
 
 /// A tree that is of no form but `Scalar`, with three trees inside it.
-fn triple(wanted: Form, own: Built, place: Place, a: Seen, b: Seen, c: Seen) -> Seen
+fn triple(wanted: Forms, own: Built, place: Place, a: Seen, b: Seen, c: Seen) -> Seen
     ensures { (x y z : Shown) → a ≡ seen wanted x → b ≡ seen wanted y → c ≡ seen wanted z → result ≡ seen wanted (plain own place (x ∷ y ∷ z ∷ [])) }
 {
     plain(wanted, own, place, three(a, b, c))
 }
 
 /// Of a call with one argument.
-fn called_one(wanted: Form, place: Place, callee: Seen, argument: Seen) -> Seen
+fn called_one(wanted: Forms, place: Place, callee: Seen, argument: Seen) -> Seen
     ensures { (x y : Shown) → callee ≡ seen wanted x → argument ≡ seen wanted y → result ≡ seen wanted (call_shown place x (y ∷ [])) }
 {
     let own = call_tree(callee.built, argument.built);
@@ -268,7 +320,7 @@ fn called_one(wanted: Form, place: Place, callee: Seen, argument: Seen) -> Seen
 
 /// Of an expression.
 #[cycle(walk)]
-fn expr(wanted: Form, tree: &Expr) -> Seen
+fn expr(wanted: Forms, tree: &Expr) -> Seen
     ensures { result ≡ seen wanted (shown_expr tree.now) }
 {
     let place = tree.place;
@@ -311,7 +363,7 @@ fn expr(wanted: Form, tree: &Expr) -> Seen
 
 /// Of `new` with these arguments.
 #[cycle(walk)]
-fn made(wanted: Form, place: Place, args: &[Expr]) -> Seen
+fn made(wanted: Forms, place: Place, args: &[Expr]) -> Seen
     ensures { result ≡ seen wanted (made_shown place (map shown_expr args.now)) }
 {
     if args.is_empty() {
@@ -327,7 +379,7 @@ fn made(wanted: Form, place: Place, args: &[Expr]) -> Seen
 
 /// Of a call with these arguments.
 #[cycle(walk)]
-fn called(wanted: Form, place: Place, callee: Seen, args: &[Expr]) -> Seen
+fn called(wanted: Forms, place: Place, callee: Seen, args: &[Expr]) -> Seen
     ensures { (x : Shown) → callee ≡ seen wanted x → result ≡ seen wanted (call_shown place x (map shown_expr args.now)) }
 {
     if args.len() != 1 {
@@ -339,7 +391,7 @@ fn called(wanted: Form, place: Place, callee: Seen, args: &[Expr]) -> Seen
 
 /// Of these expressions, after other trees.
 #[cycle(walk)]
-fn exprs(wanted: Form, before: Inside, list: &[Expr]) -> Inside
+fn exprs(wanted: Forms, before: Inside, list: &[Expr]) -> Inside
     ensures { Adds wanted before (map shown_expr list.now) result }
 {
     let mut all = before;
@@ -350,7 +402,7 @@ fn exprs(wanted: Form, before: Inside, list: &[Expr]) -> Inside
 }
 
 /// Of a type.
-fn type_name(wanted: Form, tree: &TypeName) -> Seen
+fn type_name(wanted: Forms, tree: &TypeName) -> Seen
     ensures { result ≡ seen wanted (shown_type tree.now) }
 {
     match &tree.kind {
@@ -361,7 +413,7 @@ fn type_name(wanted: Form, tree: &TypeName) -> Seen
 }
 
 /// Of an expression that may be left out, after other trees.
-fn optional_expr(wanted: Form, before: Inside, tree: &Option<Expr>) -> Inside
+fn optional_expr(wanted: Forms, before: Inside, tree: &Option<Expr>) -> Inside
     ensures { Adds wanted before (maybe_expr tree.now) result }
 {
     match tree {
@@ -380,7 +432,7 @@ fn first_place(mark: &Option<DeclaratorMark>, name: Place) -> Place
 }
 
 /// Of a declared variable, after other trees.
-fn declarator(wanted: Form, before: Inside, tree: &Declarator) -> Inside
+fn declarator(wanted: Forms, before: Inside, tree: &Declarator) -> Inside
     ensures { Adds wanted before (declarator_shown tree.now) result }
 {
     match &tree.initializer {
@@ -399,7 +451,7 @@ fn declarator(wanted: Form, before: Inside, tree: &Declarator) -> Inside
 }
 
 /// Of declared variables, after other trees.
-fn declarators(wanted: Form, before: Inside, list: &[Declarator]) -> Inside
+fn declarators(wanted: Forms, before: Inside, list: &[Declarator]) -> Inside
     ensures { Adds wanted before (flat_map declarator_shown list.now) result }
 {
     let mut all = before;
@@ -410,7 +462,7 @@ fn declarators(wanted: Form, before: Inside, list: &[Declarator]) -> Inside
 }
 
 /// Of a declaration of variables at this place.
-fn variables(wanted: Form, place: Place, tree: &Variables) -> Seen
+fn variables(wanted: Forms, place: Place, tree: &Variables) -> Seen
     ensures { result ≡ seen wanted (plain Nothing place (variables_shown tree.now)) }
 {
     let first = start(wanted, type_name(wanted, &tree.type_name));
@@ -419,7 +471,7 @@ fn variables(wanted: Form, place: Place, tree: &Variables) -> Seen
 }
 
 /// Of the start of `for`.
-fn for_start(wanted: Form, tree: &ForStart) -> Inside
+fn for_start(wanted: Forms, tree: &ForStart) -> Inside
     ensures { result ≡ inside wanted (start_shown tree.now) }
 {
     match tree {
@@ -430,7 +482,12 @@ fn for_start(wanted: Form, tree: &ForStart) -> Inside
 }
 
 /// Of what stands in the parentheses of `for`.
-fn for_head(wanted: Form, first: &ForStart, condition: &Option<Expr>, step: &Option<Expr>) -> Inside
+fn for_head(
+    wanted: Forms,
+    first: &ForStart,
+    condition: &Option<Expr>,
+    step: &Option<Expr>,
+) -> Inside
     ensures { result ≡ inside wanted (start_shown first.now ++ maybe_expr condition.now ++ maybe_expr step.now) }
 {
     let all = optional_expr(wanted, for_start(wanted, first), condition);
@@ -438,7 +495,7 @@ fn for_head(wanted: Form, first: &ForStart, condition: &Option<Expr>, step: &Opt
 }
 
 /// Of `for`, with what stands in its parentheses, and its body.
-fn repeated(wanted: Form, place: Place, head: Inside, body: Seen) -> Seen
+fn repeated(wanted: Forms, place: Place, head: Inside, body: Seen) -> Seen
     ensures { (xs : List Shown) (y : Shown) → head ≡ inside wanted xs → body ≡ seen wanted y → result ≡ seen wanted (plain Nothing place (xs ++ y ∷ [])) }
 {
     let all = after(wanted, head, body);
@@ -446,7 +503,7 @@ fn repeated(wanted: Form, place: Place, head: Inside, body: Seen) -> Seen
 }
 
 /// Of a block of these statements.
-fn block(wanted: Form, place: Place, all: Inside) -> Seen
+fn block(wanted: Forms, place: Place, all: Inside) -> Seen
     ensures { (xs : List Shown) → all ≡ inside wanted xs → result ≡ seen wanted (plain (block_built xs) place xs) }
 {
     plain(
@@ -458,7 +515,7 @@ fn block(wanted: Form, place: Place, all: Inside) -> Seen
 }
 
 /// Of an expression as a statement.
-fn run(wanted: Form, place: Place, tree: &Expr) -> Seen
+fn run(wanted: Forms, place: Place, tree: &Expr) -> Seen
     ensures { result ≡ seen wanted (plain (run_built (shown_expr tree.now).built) place (shown_expr tree.now ∷ [])) }
 {
     let tree = expr(wanted, tree);
@@ -471,7 +528,7 @@ fn run(wanted: Form, place: Place, tree: &Expr) -> Seen
 }
 
 /// Of `return`.
-fn returned(wanted: Form, place: Place, value: &Option<Expr>) -> Seen
+fn returned(wanted: Forms, place: Place, value: &Option<Expr>) -> Seen
     ensures { result ≡ seen wanted (return_shown value.now place) }
 {
     match value {
@@ -490,7 +547,7 @@ fn returned(wanted: Form, place: Place, value: &Option<Expr>) -> Seen
 
 /// Of a statement.
 #[cycle(walk_stmt)]
-fn stmt(wanted: Form, tree: &Stmt) -> Seen
+fn stmt(wanted: Forms, tree: &Stmt) -> Seen
     ensures { result ≡ seen wanted (shown_stmt tree.now) }
 {
     let place = tree.place;
@@ -547,7 +604,7 @@ fn stmt(wanted: Form, tree: &Stmt) -> Seen
 
 /// Of these statements.
 #[cycle(walk_stmt)]
-fn stmts(wanted: Form, list: &[Stmt]) -> Inside
+fn stmts(wanted: Forms, list: &[Stmt]) -> Inside
     ensures { result ≡ inside wanted (map shown_stmt list.now) }
 {
     let mut all = Inside::new();
@@ -558,7 +615,7 @@ fn stmts(wanted: Form, list: &[Stmt]) -> Inside
 }
 
 /// Of a parameter.
-fn param(wanted: Form, tree: &Param) -> Seen
+fn param(wanted: Forms, tree: &Param) -> Seen
     ensures { result ≡ seen wanted (param_shown tree.now) }
 {
     let type_name = type_name(wanted, &tree.type_name);
@@ -569,7 +626,7 @@ fn param(wanted: Form, tree: &Param) -> Seen
 }
 
 /// Of parameters, after other trees.
-fn params(wanted: Form, before: Inside, list: &[Param]) -> Inside
+fn params(wanted: Forms, before: Inside, list: &[Param]) -> Inside
     ensures { Adds wanted before (map param_shown list.now) result }
 {
     let mut all = before;
@@ -580,7 +637,7 @@ fn params(wanted: Form, before: Inside, list: &[Param]) -> Inside
 }
 
 /// Of a function's type and parameters.
-fn head(wanted: Form, tree: &Head) -> Inside
+fn head(wanted: Forms, tree: &Head) -> Inside
     ensures { result ≡ inside wanted (head_shown tree.now) }
 {
     let first = start(wanted, type_name(wanted, &tree.type_name));
@@ -605,7 +662,7 @@ fn is_int(tree: &TypeName) -> bool
 }
 
 /// Of a block that may be left out, after other trees.
-fn optional_block(wanted: Form, before: Inside, tree: &Option<Stmt>) -> Inside
+fn optional_block(wanted: Forms, before: Inside, tree: &Option<Stmt>) -> Inside
     ensures { Adds wanted before (maybe_block tree.now) result }
 {
     match tree {
@@ -615,7 +672,7 @@ fn optional_block(wanted: Form, before: Inside, tree: &Option<Stmt>) -> Inside
 }
 
 /// Of initializers, after other trees.
-fn inits(wanted: Form, before: Inside, list: &[Init]) -> Inside
+fn inits(wanted: Forms, before: Inside, list: &[Init]) -> Inside
     ensures { Adds wanted before (flat_map init_shown list.now) result }
 {
     let mut all = before;
@@ -626,7 +683,7 @@ fn inits(wanted: Form, before: Inside, list: &[Init]) -> Inside
 }
 
 /// Of what a constructor does, after other trees.
-fn constructor_body(wanted: Form, before: Inside, tree: &ConstructorBody) -> Inside
+fn constructor_body(wanted: Forms, before: Inside, tree: &ConstructorBody) -> Inside
     ensures { Adds wanted before (body_shown tree.now) result }
 {
     let all = inits(wanted, before, tree.inits.as_slice());
@@ -634,7 +691,7 @@ fn constructor_body(wanted: Form, before: Inside, tree: &ConstructorBody) -> Ins
 }
 
 /// Of what a constructor does, which may be left out, after other trees.
-fn optional_body(wanted: Form, before: Inside, tree: &Option<ConstructorBody>) -> Inside
+fn optional_body(wanted: Forms, before: Inside, tree: &Option<ConstructorBody>) -> Inside
     ensures { Adds wanted before (maybe_body tree.now) result }
 {
     match tree {
@@ -644,7 +701,7 @@ fn optional_body(wanted: Form, before: Inside, tree: &Option<ConstructorBody>) -
 }
 
 /// Of a function with its body, outside classes.
-fn defined(wanted: Form, place: Place, tree: &Head, body: &Stmt) -> Seen
+fn defined(wanted: Forms, place: Place, tree: &Head, body: &Stmt) -> Seen
     ensures { result ≡ seen wanted (plain (function_built tree.now (shown_stmt body.now).built) place (head_shown tree.now ++ shown_stmt body.now ∷ [])) }
 {
     let body = stmt(wanted, body);
@@ -665,7 +722,7 @@ fn form_of_method(virtual_at: Option<Place>) -> Form
 }
 
 /// Of a function.
-fn function(wanted: Form, tree: &FnDecl) -> Seen
+fn function(wanted: Forms, tree: &FnDecl) -> Seen
     ensures { result ≡ seen wanted (shown_fn tree.now) }
 {
     let place = tree.place;
@@ -703,7 +760,7 @@ fn function(wanted: Form, tree: &FnDecl) -> Seen
 }
 
 /// Of a member, after other trees.
-fn member(wanted: Form, before: Inside, tree: &Member) -> Inside
+fn member(wanted: Forms, before: Inside, tree: &Member) -> Inside
     ensures { Adds wanted before (member_shown tree.now) result }
 {
     match tree {
@@ -714,7 +771,7 @@ fn member(wanted: Form, before: Inside, tree: &Member) -> Inside
 }
 
 /// Of members.
-fn members(wanted: Form, list: &[Member]) -> Inside
+fn members(wanted: Forms, list: &[Member]) -> Inside
     ensures { result ≡ inside wanted (flat_map member_shown list.now) }
 {
     let mut all = Inside::new();
@@ -725,7 +782,7 @@ fn members(wanted: Form, list: &[Member]) -> Inside
 }
 
 /// Of a class.
-fn class(wanted: Form, tree: &ClassDecl) -> Seen
+fn class(wanted: Forms, tree: &ClassDecl) -> Seen
     ensures { result ≡ seen wanted (shown_class tree.now) }
 {
     match &tree.kind {
@@ -745,7 +802,7 @@ fn class(wanted: Form, tree: &ClassDecl) -> Seen
 }
 
 /// Of a declaration.
-fn decl(wanted: Form, tree: &Decl) -> Seen
+fn decl(wanted: Forms, tree: &Decl) -> Seen
     ensures { result ≡ seen wanted (shown_decl tree.now) }
 {
     match &tree.kind {
@@ -755,7 +812,7 @@ fn decl(wanted: Form, tree: &Decl) -> Seen
 }
 
 /// Of declarations.
-fn decls(wanted: Form, list: &[Decl]) -> Inside
+fn decls(wanted: Forms, list: &[Decl]) -> Inside
     ensures { result ≡ inside wanted (map shown_decl list.now) }
 {
     let mut all = Inside::new();
@@ -766,7 +823,7 @@ fn decls(wanted: Form, list: &[Decl]) -> Inside
 }
 
 /// Of a unit.
-fn unit_tree(wanted: Form, tree: &Unit) -> Seen
+fn unit_tree(wanted: Forms, tree: &Unit) -> Seen
     ensures { result ≡ seen wanted (shown_unit tree.now) }
 {
     match tree.decls.as_slice() {
@@ -782,7 +839,14 @@ fn unit_tree(wanted: Form, tree: &Unit) -> Seen
 /// The place of the first token of the first tree of this form in the order of the text, a tree coming before those
 /// inside it.
 pub fn walk(unit: &Unit, form: Form) -> Option<Place>
-    ensures { result ≡ first_of form (shown_unit unit.now).marks }
+    ensures { result ≡ first_of (only form) (shown_unit unit.now).marks }
 {
-    unit_tree(form, unit).first
+    walk_any(unit, Forms::only(form))
+}
+
+/// The same of the first tree whose form is one of these.
+pub fn walk_any(unit: &Unit, forms: Forms) -> Option<Place>
+    ensures { result ≡ first_of forms (shown_unit unit.now).marks }
+{
+    unit_tree(forms, unit).first
 }

@@ -1,5 +1,7 @@
+use Rattle.std.proofs.Common.{rules, ◌∙◌}
+use Rattle.mm_syntax.specs.declared.expr.ExprKind.{the_lemmas}
 use Rattle.mm_syntax.specs.Forms.{shown_expr}
-use Rattle.mm_syntax.proofs.Walked.{made_list, called_list, adds_more}
+use Rattle.mm_syntax.proofs.Walked.{made_list, called_list, adds_more, unary_one}
 use Rattle.mm_syntax.proofs.walk.+walk.Goals as goal
 
 pub made-returns : goal.made-returns
@@ -11,3 +13,6 @@ called-returns-then-args-ne1 t c x e = called_list c.args.wanted c.args.place c.
 pub exprs-loop-tree-preserved : goal.exprs-loop-tree-preserved
 exprs-loop-tree-preserved t c =
     adds_more shown_expr c.args.wanted c.args.before c.loop-tree.all c.and-all.result c.expr.result c.args.list.now c.loop-tree.tree-index c.tree-item.result c.loop-tree-test.true c.tree-item.is c.loop-tree.invariant c.expr.ensures c.and-all.ensures
+
+pub expr-returns-in-Unary : goal.expr-returns-in-Unary
+expr-returns-in-Unary t c = let a = c.unary.ensures ∙ unary_one c.args.wanted c.in-Unary.operator c.args.tree.now.place c.expr-in-Unary.result (shown_expr c.get-in-Unary.result.now) c.expr-in-Unary.ensures in search (rules, the_lemmas)

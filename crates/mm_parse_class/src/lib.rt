@@ -1,0 +1,4 @@
+//! Readers of classes and their members.
+#![tactic(auto)]
+
+pub mod class;

@@ -1,0 +1,6 @@
+//! Readers of parameters, and of functions and constructors behind their types.
+#![tactic(auto)]
+
+pub mod constructor;
+pub mod function;
+pub mod params;

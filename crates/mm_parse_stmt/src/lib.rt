@@ -1,0 +1,5 @@
+//! Readers of types and statements.
+#![tactic(auto)]
+
+pub mod stmt;
+pub mod types;
