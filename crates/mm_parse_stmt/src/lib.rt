@@ -1,5 +1,4 @@
-//! Readers of types and statements.
+//! Readers of statements and blocks.
 #![tactic(auto)]
 
 pub mod stmt;
-pub mod types;

@@ -1,0 +1,5 @@
+//! Readers of types, of variables, and of the statements that are one expression or one declaration.
+#![tactic(auto)]
+
+pub mod simple;
+pub mod types;
