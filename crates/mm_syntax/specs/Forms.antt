@@ -3,7 +3,7 @@ use Rattle.std.specs.Prelude.{ℕ, Bool, true, false, ◌&&◌, not, if◌then�
 use Rattle.std.specs.List.{flat_map}
 use Rattle.std.specs.Str.{bytes_eq}
 use Rattle.mm_base.specs.declared.place.Place.{Place}
-use Rattle.mm_syntax.specs.Numbers.{is_unsigned}
+use Rattle.mm_syntax.specs.Numbers.{is_int_number}
 use Rattle.mm_syntax.specs.declared.name.Number.{Number}
 use Rattle.mm_syntax.specs.declared.name.UnaryOperator.{UnaryOperator}
 use Rattle.mm_syntax.specs.declared.name.UnaryOperator.TheVariants as unary
@@ -118,7 +118,7 @@ only_if true own = own
 only_if false own = built.Nothing
 
 abbrev pub number_built : Number → Built
-number_built n = only_if (not (is_unsigned n.text)) built.Number
+number_built n = only_if (is_int_number n.text n.value) built.Number
 
 abbrev pub name_built : List ℕ → Built
 name_built text = only_if (bytes_eq text (codes "mm_put")) built.Callee

@@ -227,7 +227,7 @@ fn plain(wanted: Forms, own: Built, place: Place, inside: Inside) -> Seen
 fn number_tree(number: &Number) -> Built
     ensures { result ≡ number_built number.now }
 {
-    where_holds(!number.has_suffix(), Built::Number)
+    where_holds(number.is_int(), Built::Number)
 }
 
 fn name_tree(text: &str) -> Built
