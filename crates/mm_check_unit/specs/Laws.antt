@@ -1,0 +1,36 @@
+-- What holds of the units whose trees are all built. Own.
+use Rattle.std.specs.Prelude.{◌≡◌, IsTrue, List, [], ◌∷◌, ◌⊎◌, Option, Some, None}
+use Rattle.mm_syntax.specs.Forms.{all_forms, first_of, shown_unit, is_main}
+use Rattle.mm_syntax.specs.declared.decl.FnDeclKind.{FnDeclKind}
+use Rattle.mm_syntax.specs.declared.decl.FnDeclKind.TheVariants as f
+use Rattle.mm_syntax.specs.declared.decl.Decl.{Decl}
+use Rattle.mm_syntax.specs.declared.decl.DeclKind.{DeclKind}
+use Rattle.mm_syntax.specs.declared.decl.DeclKind.TheVariants as d
+use Rattle.mm_syntax.specs.declared.decl.Unit.{Unit as UnitTree}
+use Rattle.mm_check_unit.specs.declared.first.Stmt.{Stmt}
+use Rattle.mm_check_unit.specs.First.{statements_of}
+
+-- no tree of a form that isn't built stands in the unit
+abbrev pub IsBuilt : UnitTree → Type 0
+IsBuilt u = first_of all_forms (shown_unit u).marks ≡ None
+
+-- a definition of `int main()`
+abbrev pub IsMainFn : FnDeclKind → Type 0
+IsMainFn (f.Definition head body) = IsTrue (is_main head)
+IsMainFn _ = ⊥
+
+abbrev pub IsMainDecl : DeclKind → Type 0
+IsMainDecl (d.Function x) = IsMainFn x.kind
+IsMainDecl (d.Class x) = ⊥
+
+abbrev pub HasMain : List Decl → Type 0
+HasMain [] = ⊥
+HasMain (x ∷ xs) = IsMainDecl x.kind ⊎ HasMain xs
+
+-- `int main()` is defined
+abbrev pub DefinesMain : UnitTree → Type 0
+DefinesMain u = HasMain u.decls
+
+-- A unit whose trees are all built, and which defines `int main()`, is a first text.
+abbrev pub BuiltIsFirst : Type 0
+BuiltIsFirst = (u : UnitTree) → IsBuilt u → DefinesMain u → (ss : List Stmt) × (statements_of u ≡ Some ss)
