@@ -1,15 +1,15 @@
 #!/bin/sh
-# Links units of 2^19 and 2^20 bytes, whose one sum has some half a million numbers in the longer one, and prints the
-# times, the memory and the ratio of the times. Nothing is asserted.
+# Links units of 2^19 and 2^20 bytes, which are nearly all statements, and prints the times and their ratio. Nothing is
+# asserted.
 set -eu
 top=$(cd "$(dirname "$0")/.." && pwd)
 work=$(mktemp -d)
 trap 'rm -rf "$work"' EXIT
 "$top/mmc" link "$top/examples/sum.cc" >/dev/null
 unit() {
-    awk -v size="$1" 'BEGIN { head = "int main(){return 1"; tail = ";}"; printf "%s", head;
-        for (left = size - length(head) - length(tail); left >= 2; left -= 2) printf "+1"; printf "%s", tail;
-        if (left) printf " " }' >"$work/$1.cc"
+    awk -v size="$1" 'BEGIN { head = "int main(){"; statement = "mm_put(1+2);"; tail = "}"; printf "%s", head;
+        for (left = size - length(head) - length(tail); left >= length(statement); left -= length(statement)) printf "%s", statement;
+        printf "%s", tail; for (; left; left--) printf " " }' >"$work/$1.cc"
 }
 time_of() {
     start=$(date +%s.%N)

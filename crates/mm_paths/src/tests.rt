@@ -73,6 +73,41 @@ fn diamonds_are_built(rt: HostRuntime) {
     }
 }
 
+// A class that is a virtual base, and a base of a base that isn't.
+fn both_ways(graph: &mut Graph, alloc: Global) -> Result<ClassId, GraphEnd> {
+    let a = add(graph, alloc, "A", &[])?;
+    let b = add(graph, alloc, "B", &[base(a, false)])?;
+    add(graph, alloc, "D", &[base(b, false), base(a, true)])
+}
+
+// A virtual base with a base that has another virtual base.
+fn three_levels(graph: &mut Graph, alloc: Global) -> Result<ClassId, GraphEnd> {
+    let a = add(graph, alloc, "A", &[])?;
+    let b = add(graph, alloc, "B", &[base(a, true)])?;
+    let c = add(graph, alloc, "C", &[base(b, false)])?;
+    add(graph, alloc, "D", &[base(c, true), base(b, false)])
+}
+
+#[test]
+fn bases_may_be_mixed(rt: HostRuntime) {
+    for (n, want) in [(1, (4, 2)), (3, (4, 3))] {
+        let mut graph = Graph::new(rt.alloc());
+        let found = match both_ways(&mut graph, rt.alloc()) {
+            Ok(d) => count_and_last(&graph, d, n),
+            Err(_) => None,
+        };
+        assert_eq!(rt; found, Some(want));
+    }
+    for n in [1, 2, 3] {
+        let mut graph = Graph::new(rt.alloc());
+        let found = match three_levels(&mut graph, rt.alloc()) {
+            Ok(d) => count_and_last(&graph, d, n),
+            Err(_) => None,
+        };
+        assert_eq!(rt; found, Some((5, 4)));
+    }
+}
+
 #[test]
 fn a_chain_ends_at_the_limit(rt: HostRuntime) {
     let mut graph = Graph::new(rt.alloc());
