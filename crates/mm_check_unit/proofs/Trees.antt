@@ -1,13 +1,12 @@
 -- What a tree means is what its parts mean, and which statement a tree may be.
-use Rattle.std.proofs.Common.{◌≡◌, List, [], ◌∷◌, ◌++◌, Option, Some, None, refl, ap, sym, ◌∙◌, map}
+use Rattle.std.proofs.Common.{◌≡◌, List, [], ◌∷◌, Option, None, refl, ap, sym, ◌∙◌, map}
 use Rattle.mm_syntax.specs.declared.expr.Expr.{Expr}
 use Rattle.mm_syntax.specs.declared.stmt.StmtKind.{StmtKind, StmtKind-F, roll-StmtKind, out-StmtKind, roll-out-StmtKind, map-StmtKind, fold-StmtKind, fold-roll-StmtKind}
 use Rattle.mm_syntax.specs.declared.stmt.StmtKind.TheVariants.{rolls-Expr, rolls-Return}
 use Rattle.mm_syntax.specs.declared.stmt.StmtKind.TheVariants as kind
 use Rattle.mm_syntax.specs.declared.stmt.Stmt.{fold_out-Stmt}
 use Rattle.mm_syntax.specs.declared.stmt.Stmt.{Stmt as StmtTree}
-use Rattle.mm_check_unit.specs.declared.first.Stmt.{Stmt}
-use Rattle.mm_check_unit.specs.First.{Meant, nothing, sum, callee, put, StmtMeant, no_stmt, one_stmt, block, run_meant, return_meant, block_with, block_meant, stmt_meant, meant_stmt, body_meant}
+use Rattle.mm_check_unit.specs.First.{StmtMeant, no_stmt, one_stmt, block, block_with, block_meant, stmt_meant, meant_stmt}
 use Rattle.mm_check_unit.specs.Parts.{stmt_of}
 
 abbrev pub kind_meant : StmtKind → StmtMeant

@@ -1,8 +1,8 @@
 -- What an expression or a statement is, where it is the one that is asked for. Own.
-use Rattle.std.specs.Prelude.{◌≡◌, ℕ, Bool, true, false, List, [], ◌∷◌, Option, Some, None, MatchOption}
+use Rattle.std.specs.Prelude.{ℕ, Bool, true, false, List, [], ◌∷◌, Option, Some, None}
 use Rattle.mm_check_unit.specs.declared.first.Sum.{Sum}
 use Rattle.mm_check_unit.specs.declared.first.Stmt.{Stmt}
-use Rattle.mm_check_unit.specs.First.{Meant, nothing, sum, callee, put, StmtMeant, no_stmt, one_stmt, block}
+use Rattle.mm_check_unit.specs.First.{Meant, sum, callee, StmtMeant, one_stmt}
 
 abbrev pub sum_of : Meant → Option Sum
 sum_of (sum a) = Some a

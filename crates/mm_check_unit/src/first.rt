@@ -8,8 +8,7 @@ ghost use Rattle.mm_check_unit.specs.Parts.{sum_of, number_of, is_callee, stmt_o
 use mm_syntax::decl::{Decl, DeclKind, FnDecl, FnDeclKind, Head, Unit};
 use mm_syntax::expr::{Expr, ExprKind, TypeName, TypeNameKind};
 use mm_syntax::name::{BinaryOperator, Number};
-use mm_syntax::stmt::Stmt as StmtTree;
-use mm_syntax::stmt::StmtKind;
+use mm_syntax::stmt::{Stmt as StmtTree, StmtKind};
 use sqlite_items::Items;
 use std::alloc::{AllocError, Global};
 
