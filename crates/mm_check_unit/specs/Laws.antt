@@ -1,5 +1,5 @@
 -- What holds of the units whose trees are all built. Own.
-use Rattle.std.specs.Prelude.{◌≡◌, IsTrue, List, [], ◌∷◌, ◌⊎◌, Option, Some, None}
+use Rattle.std.specs.Prelude.{◌≡◌, IsTrue, List, [], ◌∷◌, ◌⊎◌, Some, None}
 use Rattle.mm_syntax.specs.Forms.{all_forms, first_of, shown_unit, is_main}
 use Rattle.mm_syntax.specs.declared.decl.FnDeclKind.{FnDeclKind}
 use Rattle.mm_syntax.specs.declared.decl.FnDeclKind.TheVariants as f

@@ -1,0 +1,6 @@
+pub mod Blocks
+pub mod Built
+pub mod Exprs
+pub mod Marks
+pub mod Stmts
+pub mod Trees
