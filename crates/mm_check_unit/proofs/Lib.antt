@@ -4,3 +4,4 @@ pub mod Exprs
 pub mod Marks
 pub mod Stmts
 pub mod Trees
+pub mod Valid

@@ -1,5 +1,6 @@
--- What holds of the units whose trees are all built. Own.
+-- What holds of the units whose trees are all built, and of the first texts. Own.
 use Rattle.std.specs.Prelude.{◌≡◌, IsTrue, List, [], ◌∷◌, ◌⊎◌, Some, None}
+use Rattle.mm_core.specs.Valid.{AreValidStmts}
 use Rattle.mm_syntax.specs.Forms.{all_forms, first_of, shown_unit, is_main}
 use Rattle.mm_syntax.specs.declared.decl.FnDeclKind.{FnDeclKind}
 use Rattle.mm_syntax.specs.declared.decl.FnDeclKind.TheVariants as f
@@ -8,7 +9,7 @@ use Rattle.mm_syntax.specs.declared.decl.DeclKind.{DeclKind}
 use Rattle.mm_syntax.specs.declared.decl.DeclKind.TheVariants as d
 use Rattle.mm_syntax.specs.declared.decl.Unit.{Unit as UnitTree}
 use Rattle.mm_check_unit.specs.declared.first.Stmt.{Stmt}
-use Rattle.mm_check_unit.specs.First.{statements_of}
+use Rattle.mm_check_unit.specs.First.{statements_of, checked}
 
 -- no tree of a form that isn't built stands in the unit
 abbrev pub IsBuilt : UnitTree → Type 0
@@ -34,3 +35,7 @@ DefinesMain u = HasMain u.decls
 -- A unit whose trees are all built, and which defines `int main()`, is a first text.
 abbrev pub BuiltIsFirst : Type 0
 BuiltIsFirst = (u : UnitTree) → IsBuilt u → DefinesMain u → (ss : List Stmt) × (statements_of u ≡ Some ss)
+
+-- The checked statements of a first text are valid.
+abbrev pub FirstIsValid : Type 0
+FirstIsValid = (u : UnitTree) (ss : List Stmt) → statements_of u ≡ Some ss → AreValidStmts (checked ss)
