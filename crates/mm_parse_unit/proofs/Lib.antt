@@ -5,3 +5,5 @@ pub mod BoundsParts
 pub mod BoundsExpr
 pub mod BoundsLists
 pub mod BoundsStmt
+pub mod BoundsDecl
+pub mod BoundsKept
