@@ -1,10 +1,11 @@
 -- Tokens that keep the count: no part of them without `;`, `{` and `}` has more than 1,000.
-use Rattle.std.proofs.Common.{◌≡◌, ℕ, zero, suc, ◌+◌, ◌≤◌, ◌<◌, Bool, true, false, if◌then◌else◌, List, [], ◌∷◌, ◌++◌, length, refl, sym, ap, ◌∙◌, subst, arith}
-use Rattle.std.proofs.lemmas.List.{append_assoc}
+use Rattle.std.proofs.Common.{◌≡◌, ℕ, suc, ◌+◌, ◌≤◌, ◌<◌, Bool, true, false, if◌then◌else◌, List, [], ◌∷◌, ◌++◌, length, refl, sym, ap, ◌∙◌, subst, arith}
+use Rattle.std.proofs.lemmas.List.{append_assoc, append-nil}
 use Rattle.mm_token.specs.declared.token.Token.{Token}
 use Rattle.mm_parse_expr.specs.Longest.{count_from, ends_count}
 use Rattle.mm_parse_unit.specs.Units.{KeepsCount}
 
+-- no `;`, `{` or `}`
 abbrev pub NoStops : List Token → Type 0
 NoStops [] = Unit {0}
 NoStops (t ∷ ts) = (ends_count t ≡ false) × NoStops ts
@@ -13,6 +14,7 @@ pub stops_append : (a b : List Token) → NoStops a → NoStops b → NoStops (a
 stops_append [] b h k = k
 stops_append (t ∷ a) b h k = (h.0, stops_append a b h.1 k)
 
+-- no part without these has more than 1,000 tokens
 abbrev pub Counted : List Token → Type 0
 Counted ts = (before part after : List Token) → ts ≡ before ++ (part ++ after) → NoStops part → length part ≤ 1000
 
@@ -24,12 +26,8 @@ pub counted_right : (ts a b : List Token) → ts ≡ a ++ b → Counted ts → C
 counted_right ts a b e h before part after f n =
     h (a ++ before) part after (e ∙ (ap (λ c. a ++ c) f ∙ sym (append_assoc a before (part ++ after)))) n
 
-pub append_nil : {A : Type 0} → (xs : List A) → xs ++ [] ≡ xs
-append_nil [] = refl
-append_nil (x ∷ xs) = ap (λ ys. x ∷ ys) (append_nil xs)
-
 pub counted_whole : (ts : List Token) → Counted ts → NoStops ts → length ts ≤ 1000
-counted_whole ts h n = h [] ts [] (sym (append_nil ts)) n
+counted_whole ts h n = h [] ts [] (sym (append-nil ts)) n
 
 -- ---- from the limit on the tokens of a unit
 
@@ -64,8 +62,8 @@ all_within : (n : ℕ) (before part after : List Token) → n ≤ 1000 → Keeps
 all_within n [] part after m h s = omega (arith, part_within n part after m h s)
 all_within n (t ∷ before) part after m h s =
     all_within (if ends_count t then 0 else suc n) before part after
-      (next_within (ends_count t) n (keeps_first n t (before ++ (part ++ after)) h))
-      (keeps_rest n t (before ++ (part ++ after)) h) s
+    (next_within (ends_count t) n (keeps_first n t (before ++ (part ++ after)) h))
+    (keeps_rest n t (before ++ (part ++ after)) h) s
 
 pub counted : (ts : List Token) → KeepsCount ts → Counted ts
 unfolding Keeps

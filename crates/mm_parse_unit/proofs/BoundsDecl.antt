@@ -1,6 +1,6 @@
 -- Functions, classes and units: their expressions are short, their bodies don't nest deeper than their rules, and they have
 -- no more names than tokens.
-use Rattle.std.proofs.Common.{◌≡◌, ℕ, zero, suc, ◌+◌, ◌≤◌, List, [], ◌∷◌, ◌++◌, length, map, flat_map, sum, Option, Some, None, refl, sym, subst, arith}
+use Rattle.std.proofs.Common.{ℕ, ◌+◌, ◌≤◌, List, length, Option, Some, None, arith}
 use Rattle.mm_base.specs.declared.place.Place.{Place}
 use Rattle.mm_token.specs.declared.token.Token.{Token}
 use Rattle.mm_syntax.specs.declared.name.Name.{Name}
@@ -12,10 +12,7 @@ use Rattle.mm_syntax.specs.declared.decl.Params.{Params}
 use Rattle.mm_syntax.specs.declared.decl.Head.{Head}
 use Rattle.mm_syntax.specs.declared.decl.Init.{Init}
 use Rattle.mm_syntax.specs.declared.decl.ConstructorBody.{ConstructorBody}
-use Rattle.mm_syntax.specs.declared.decl.FnDeclKind.{FnDeclKind}
 use Rattle.mm_syntax.specs.declared.decl.FnDeclKind.TheVariants as f
-use Rattle.mm_syntax.specs.declared.decl.Member.{Member}
-use Rattle.mm_syntax.specs.declared.decl.Decl.{Decl}
 use Rattle.mm_syntax.specs.declared.part.ParamEnd.{ParamEnd}
 use Rattle.mm_syntax.specs.declared.part.Declared.{Declared}
 use Rattle.mm_syntax.specs.declared.part.FunctionEnd.{FunctionEnd}
@@ -25,41 +22,35 @@ use Rattle.mm_syntax.specs.declared.part.AfterClass.TheVariants as after_class
 use Rattle.mm_syntax.specs.declared.part.ClassBody.{ClassBody}
 use Rattle.mm_syntax.specs.declared.part.MemberEnd.{MemberEnd}
 use Rattle.mm_syntax.specs.declared.part.MemberEnd.TheVariants as member_is
-use Rattle.mm_syntax.specs.declared.part.MemberTail.{MemberTail}
-use Rattle.mm_syntax.specs.declared.part.MethodTail.{MethodTail}
 use Rattle.mm_syntax.specs.declared.part.AfterVirtual.{AfterVirtual}
 use Rattle.mm_syntax.specs.declared.part.AfterVirtual.TheVariants as virtual_is
-use Rattle.mm_syntax.specs.declared.part.ConstructorTail.{ConstructorTail}
 use Rattle.mm_syntax.specs.declared.part.AfterMemberClass.{AfterMemberClass}
 use Rattle.mm_syntax.specs.declared.part.AfterMemberClass.TheVariants as class_is
 use Rattle.mm_syntax.specs.Built as b
 use Rattle.mm_syntax.specs.BuiltDeclarations as bd
 use Rattle.mm_syntax.specs.Limits.{variables_of, member_functions, member_count}
-use Rattle.mm_syntax.specs.Rules.{Rule, unit, decl, item, params, param, inits, init, block, type_name, rule_of, parameters, param_end, void_end, other_param, more_params, after_void, some_params, function_body, function_end, after_type, constructor_body, constructor_end, after_class_name, base, bases, items, class_body, class_head, method_body, method_end, next_field, member_end, member_tail, method_tail, destructor, after_virtual, constructor_tail, after_member_class}
-use Rattle.mm_parse_unit.proofs.BoundsWeights.{total, Every, maybe_weight, MaybeGood, GoodStmt, GoodInit, kind_weight, GoodKind, fn_weight, GoodFn, member_weight, GoodMember, decl_weight, GoodDecl, weight, Good}
+use Rattle.mm_syntax.specs.Rules.{unit, decl, item, params, param, inits, init, block, type_name, rule_of, parameters, param_end, void_end, other_param, more_params, after_void, some_params, function_body, function_end, after_type, constructor_body, after_class_name, base, bases, class_body, method_end, next_field, member_end, member_tail, method_tail, destructor, after_virtual, constructor_tail, after_member_class}
+use Rattle.mm_parse_unit.proofs.BoundsWeights.{Free, total, Every, maybe_weight, MaybeGood, GoodStmt, GoodInit, kind_weight, GoodKind, fn_weight, GoodFn, member_weight, GoodMember, decl_weight, GoodDecl, weight, Good}
 use Rattle.mm_parse_unit.proofs.BoundsLists.{every_flat, sum_total, total_flat, total_both}
-use Rattle.mm_parse_unit.proofs.BoundsParts.{Costs, tok, rule, both, gives, after, before, either, maybe, several, free, less, whole}
+use Rattle.mm_parse_unit.proofs.BoundsParts.{Costs, one_token, rule, both, gives, after, before, either, maybe, several, free, less, whole}
 use Rattle.mm_parse_unit.proofs.BoundsExpr.{call_costs, scope_costs}
 use Rattle.mm_parse_unit.proofs.BoundsStmt.{items_costs, void_costs, number_costs, class_costs, mark_costs}
-
-abbrev Free : {A : Type 0} → A → Type 0
-Free v = Unit {0}
 
 -- ---- parameters
 
 param_end_costs : Costs param_end (λ v. 0) Free
-param_end_costs = gives (both (maybe mark_costs) (maybe tok)) (λ w. omega arith) (λ w h. tt)
+param_end_costs = gives (both (maybe mark_costs) (maybe one_token)) (λ w. omega arith) (λ w h. tt)
 
 void_end_costs : Costs void_end (λ v. 0) Free
-void_end_costs = either (gives (both mark_costs (maybe tok)) (λ w. omega arith) (λ w h. tt)) (gives tok (λ w. omega arith) (λ w h. tt))
+void_end_costs = either (gives (both mark_costs (maybe one_token)) (λ w. omega arith) (λ w h. tt)) (gives one_token (λ w. omega arith) (λ w h. tt))
 
 other_costs : Costs other_param (λ v. 1) Free
 other_costs = either
-    (gives (both tok (both (rule type_name) param_end_costs)) (λ w. omega arith) (λ w h. tt))
+    (gives (both one_token (both (rule type_name) param_end_costs)) (λ w. omega arith) (λ w h. tt))
     (gives (both (either number_costs class_costs) param_end_costs) (λ w. omega arith) (λ w h. tt))
 
 more_costs : Costs more_params length Free
-more_costs = less (items_costs (less (after tok (rule param)) (λ w. omega arith) (λ w h. h))) (λ w. omega arith) (λ w h. tt)
+more_costs = less (items_costs (less (after one_token (rule param)) (λ w. omega arith) (λ w h. h))) (λ w. omega arith) (λ w h. tt)
 
 pub param_costs : Costs (rule_of param) (weight param) (Good param)
 param_costs = either (gives (both void_costs void_end_costs) (λ w. omega arith) (λ w h. tt)) other_costs
@@ -91,7 +82,7 @@ pub params_costs : Costs (rule_of params) (weight params) (Good params)
 params_costs = gives (maybe some_costs) given_weight (λ w h. tt)
 
 parameters_costs : Costs parameters (λ v. length v.list) Free
-parameters_costs = less (after tok (before (rule params) tok)) (λ w. omega arith) (λ w h. tt)
+parameters_costs = less (after one_token (before (rule params) one_token)) (λ w. omega arith) (λ w h. tt)
 
 -- ---- functions outside classes
 
@@ -99,7 +90,7 @@ abbrev body_weight : Option Stmt → ℕ
 body_weight x = maybe_weight variables_of x
 
 function_body_costs : (n : ℕ) → Costs (function_body n) body_weight (MaybeGood (GoodStmt n))
-function_body_costs n = either (gives tok (λ t. omega arith) (λ t h. tt)) (gives (rule (block n)) (λ w. omega arith) (λ w h. h))
+function_body_costs n = either (gives one_token (λ t. omega arith) (λ t h. tt)) (gives (rule (block n)) (λ w. omega arith) (λ w h. h))
 
 abbrev end_weight : FunctionEnd → ℕ
 end_weight (end_of.Plain word v body) = length v.list + body_weight body
@@ -111,8 +102,8 @@ GoodEnd n (end_of.Member class word v body) = GoodStmt n body
 
 function_end_costs : (n : ℕ) → Costs (function_end n) end_weight (GoodEnd n)
 function_end_costs n = either
-    (gives (both tok (both parameters_costs (function_body_costs n))) (λ w. omega arith) (λ w h. h.1.1))
-    (gives (both scope_costs (both tok (both parameters_costs (rule (block n))))) (λ w. omega arith) (λ w h. h.1.1.1))
+    (gives (both one_token (both parameters_costs (function_body_costs n))) (λ w. omega arith) (λ w h. h.1.1))
+    (gives (both scope_costs (both one_token (both parameters_costs (rule (block n))))) (λ w. omega arith) (λ w h. h.1.1.1))
 
 after_type_costs : (n : ℕ) → Costs (after_type n) (λ v. end_weight v.end) (λ v. GoodEnd n v.end)
 after_type_costs n = gives (both (maybe mark_costs) (function_end_costs n)) (λ w. omega arith) (λ w h. h.1)
@@ -130,10 +121,10 @@ kind_good n t m (end_of.Member class word v body) h = (tt, (h, tt))
 -- ---- constructors
 
 pub init_costs : Costs (rule_of init) (weight init) (Good init)
-init_costs = gives (both tok call_costs) (λ w. omega arith) (λ w h. h.1)
+init_costs = gives (both one_token call_costs) (λ w. omega arith) (λ w h. h.1)
 
 pub inits_costs : Costs (rule_of inits) (weight inits) (Good inits)
-inits_costs = gives (after tok (both (rule init) (several (after tok (rule init))))) (λ w. omega arith) (λ w h. h)
+inits_costs = gives (after one_token (both (rule init) (several (after one_token (rule init))))) (λ w. omega arith) (λ w h. h)
 
 abbrev constructor_weight : ConstructorBody → ℕ
 constructor_weight v = variables_of v.block
@@ -159,7 +150,7 @@ GoodAfter n (after_class.Constructor word v body) = GoodBody n body
 after_class_costs : (n : ℕ) → Costs (after_class_name n) after_weight (GoodAfter n)
 after_class_costs n = either
     (gives (after_type_costs n) (λ w. omega arith) (λ w h. h))
-    (gives (after tok (both tok (both parameters_costs (constructor_body_costs n)))) (λ w. omega arith) (λ w h. h.1.1))
+    (gives (after one_token (both one_token (both parameters_costs (constructor_body_costs n)))) (λ w. omega arith) (λ w h. h.1.1))
 
 -- ---- declarations of functions
 
@@ -180,10 +171,10 @@ after_good n class (after_class.Constructor word v body) h = ((h.0, (h.1, tt)), 
 -- ---- members
 
 method_end_costs : (n : ℕ) → Costs (method_end n) (λ v. length v.0.list + body_weight v.1) (λ v. MaybeGood (GoodStmt n) v.1)
-method_end_costs n = less (both {g = body_weight} {H = MaybeGood (GoodStmt n)} parameters_costs (either (gives tok (λ t. omega arith) (λ t h. tt)) (gives (before (rule (block n)) (free (maybe tok))) (λ w. omega arith) (λ w h. h)))) (λ w. omega arith) (λ w h. h.1)
+method_end_costs n = less (both {g = body_weight} {H = MaybeGood (GoodStmt n)} parameters_costs (either (gives one_token (λ t. omega arith) (λ t h. tt)) (gives (before (rule (block n)) (free (maybe one_token))) (λ w. omega arith) (λ w h. h)))) (λ w. omega arith) (λ w h. h.1)
 
 field_costs : Costs next_field (λ v. 1) Free
-field_costs = gives (after tok (both (maybe mark_costs) tok)) (λ w. omega arith) (λ w h. tt)
+field_costs = gives (after one_token (both (maybe mark_costs) one_token)) (λ w. omega arith) (λ w h. tt)
 
 abbrev member_end_weight : MemberEnd → ℕ
 member_end_weight (member_is.Function v body) = length v.list + body_weight body
@@ -196,16 +187,16 @@ GoodMemberEnd n (member_is.Fields v) = Unit {0}
 member_end_costs : (n : ℕ) → Costs (member_end n) member_end_weight (GoodMemberEnd n)
 member_end_costs n = either
     (gives (method_end_costs n) (λ w. omega arith) (λ w h. h))
-    (gives (before (items_costs field_costs) tok) (λ w. omega arith) (λ w h. tt))
+    (gives (before (items_costs field_costs) one_token) (λ w. omega arith) (λ w h. tt))
 
 member_tail_costs : (n : ℕ) → Costs (member_tail n) (λ v. 1 + member_end_weight v.end) (λ v. GoodMemberEnd n v.end)
-member_tail_costs n = gives (both (maybe mark_costs) (both tok (member_end_costs n))) (λ w. omega arith) (λ w h. h.1.1)
+member_tail_costs n = gives (both (maybe mark_costs) (both one_token (member_end_costs n))) (λ w. omega arith) (λ w h. h.1.1)
 
 method_tail_costs : (n : ℕ) → Costs (method_tail n) (λ v. length v.params.list + body_weight v.body) (λ v. MaybeGood (GoodStmt n) v.body)
-method_tail_costs n = gives (both (maybe mark_costs) (both tok (method_end_costs n))) (λ w. omega arith) (λ w h. h.1.1)
+method_tail_costs n = gives (both (maybe mark_costs) (both one_token (method_end_costs n))) (λ w. omega arith) (λ w h. h.1.1)
 
 destructor_costs : Costs destructor (λ v. 1) Free
-destructor_costs = gives (both tok (both tok (after tok (before (before (before (before (maybe tok) tok) tok) tok) (free (maybe tok)))))) (λ w. omega arith) (λ w h. tt)
+destructor_costs = gives (both one_token (both one_token (after one_token (before (before (before (before (maybe one_token) one_token) one_token) one_token) (free (maybe one_token)))))) (λ w. omega arith) (λ w h. tt)
 
 abbrev virtual_weight : AfterVirtual → ℕ
 virtual_weight (virtual_is.Destructor v) = 0
@@ -221,7 +212,7 @@ after_virtual_costs n = either
     (gives (both (rule type_name) (method_tail_costs n)) (λ w. omega arith) (λ w h. h.1))
 
 constructor_tail_costs : (n : ℕ) → Costs (constructor_tail n) (λ v. length v.params.list + maybe_weight constructor_weight v.body) (λ v. MaybeGood (GoodBody n) v.body)
-constructor_tail_costs n = gives (both {g = maybe_weight constructor_weight} {H = MaybeGood (GoodBody n)} parameters_costs (either (gives tok (λ t. omega arith) (λ t h. tt)) (gives (before (constructor_body_costs n) (free (maybe tok))) (λ w. omega arith) (λ w h. h)))) (λ w. omega arith) (λ w h. h.1)
+constructor_tail_costs n = gives (both {g = maybe_weight constructor_weight} {H = MaybeGood (GoodBody n)} parameters_costs (either (gives one_token (λ t. omega arith) (λ t h. tt)) (gives (before (constructor_body_costs n) (free (maybe one_token))) (λ w. omega arith) (λ w h. h)))) (λ w. omega arith) (λ w h. h.1)
 
 abbrev class_member_weight : AfterMemberClass → ℕ
 class_member_weight (class_is.Type v) = member_end_weight v.end
@@ -278,29 +269,29 @@ virtual_good n word (virtual_is.Method t v) h = (method_good n (Some word.place)
 
 pub item_costs : (n : ℕ) → Costs (rule_of (item n)) (weight (item n)) (Good (item n))
 item_costs n = either
-    (gives (before tok tok) (λ t. omega arith) (λ t h. tt))
+    (gives (before one_token one_token) (λ t. omega arith) (λ t h. tt))
     (either
-    (gives (both tok (after_virtual_costs n)) (λ w. virtual_at w.0 w.1) (λ w h. virtual_good n w.0 w.1 h.1))
+    (gives (both one_token (after_virtual_costs n)) (λ w. virtual_at w.0 w.1) (λ w h. virtual_good n w.0 w.1 h.1))
     (either
     (gives destructor_costs (λ w. omega arith) (λ w h. ((tt, tt), tt)))
     (either
     (gives (both (either void_costs number_costs) (member_tail_costs n)) (λ w. omega (arith, typed_end_weight w.0 w.1.mark w.1.name w.1.end)) (λ w h. typed_end_good n w.0 w.1.mark w.1.name w.1.end h.1))
-    (gives (both tok (class_member_costs n)) (λ w. class_member_at w.0 w.1) (λ w h. class_member_good n w.0 w.1 h.1)))))
+    (gives (both one_token (class_member_costs n)) (λ w. class_member_at w.0 w.1) (λ w h. class_member_good n w.0 w.1 h.1)))))
 
 -- ---- classes
 
 base_costs : Costs base (λ v. 0) Free
 base_costs = either
-    (gives tok (λ w. omega arith) (λ w h. tt))
+    (gives one_token (λ w. omega arith) (λ w h. tt))
     (either
-    (gives (both tok (both (maybe tok) tok)) (λ w. omega arith) (λ w h. tt))
-    (gives (both tok (both (maybe tok) tok)) (λ w. omega arith) (λ w h. tt)))
+    (gives (both one_token (both (maybe one_token) one_token)) (λ w. omega arith) (λ w h. tt))
+    (gives (both one_token (both (maybe one_token) one_token)) (λ w. omega arith) (λ w h. tt)))
 
 bases_costs : Costs bases (λ v. 0) Free
-bases_costs = gives (after tok (both base_costs (several (after tok base_costs)))) (λ w. omega arith) (λ w h. tt)
+bases_costs = gives (after one_token (both base_costs (several (after one_token base_costs)))) (λ w. omega arith) (λ w h. tt)
 
 class_body_costs : (n : ℕ) → Costs (class_body n) (λ v. total member_weight v.members) (λ v. Every (GoodMember n) v.members)
-class_body_costs n = gives (both (maybe bases_costs) (after tok (before (several (rule (item n))) tok))) (λ w. omega arith) (λ w h. h.1)
+class_body_costs n = gives (both (maybe bases_costs) (after one_token (before (several (rule (item n))) one_token))) (λ w. omega arith) (λ w h. h.1)
 
 class_at : (tokens : List Token) (word class : Token) (body : Option ClassBody) → decl_weight (bd.class_decl tokens word class body) ≤ 1 + maybe_weight (λ v. total member_weight v.members) body
 class_at tokens word class None = omega arith
@@ -318,12 +309,12 @@ class_good n tokens word class (Some v) h = every_flat (GoodFn n) member_functio
 
 pub decl_costs : (n : ℕ) → Costs (rule_of (decl n)) (weight (decl n)) (Good (decl n))
 decl_costs n = either
-    (gives (before (whole (both tok (both tok (maybe (class_body_costs n))))) tok)
-        (λ w. omega (arith, class_at w.0 w.1.0 w.1.1.0 w.1.1.1))
-        (λ w h. class_good n w.0 w.1.0 w.1.1.0 w.1.1.1 h.1.1))
+    (gives (before (whole (both one_token (both one_token (maybe (class_body_costs n))))) one_token)
+    (λ w. omega (arith, class_at w.0 w.1.0 w.1.1.0 w.1.1.1))
+    (λ w h. class_good n w.0 w.1.0 w.1.1.0 w.1.1.1 h.1.1))
     (either
     (gives (both (either void_costs number_costs) (after_type_costs n)) (λ w. typed_weight w.0 w.1) (λ w h. typed_good n w.0 w.1 h.1))
-    (gives (both tok (after_class_costs n)) (λ w. after_at w.0 w.1) (λ w h. after_good n w.0 w.1 h.1)))
+    (gives (both one_token (after_class_costs n)) (λ w. after_at w.0 w.1) (λ w h. after_good n w.0 w.1 h.1)))
 
 pub unit_costs : (n : ℕ) → Costs (rule_of (unit n)) (weight (unit n)) (Good (unit n))
 unit_costs n = several (rule (decl n))

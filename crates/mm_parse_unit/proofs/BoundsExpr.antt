@@ -1,5 +1,5 @@
 -- The tree of an expression has no more tokens of its own than its text.
-use Rattle.std.proofs.Common.{◌≡◌, ℕ, zero, suc, ◌+◌, ◌-◌, ◌≤◌, List, [], ◌∷◌, map, Option, Some, None, refl, arith, rules}
+use Rattle.std.proofs.Common.{◌≡◌, ℕ, ◌+◌, ◌-◌, ◌≤◌, List, [], ◌∷◌, map, Option, Some, None, arith, rules}
 use Rattle.mm_base.specs.declared.place.Place.{Place}
 use Rattle.mm_token.specs.declared.token.Token.{Token}
 use Rattle.mm_syntax.specs.declared.symbol.Symbol.{Symbol}
@@ -14,13 +14,10 @@ use Rattle.mm_syntax.specs.declared.part.Suffix.TheVariants as suffix_is
 use Rattle.mm_syntax.specs.Symbols.{symbol_of}
 use Rattle.mm_syntax.specs.Built as b
 use Rattle.mm_syntax.specs.Limits.{tokens_of, listed_tokens, scope_tokens}
-use Rattle.mm_syntax.specs.Rules.{Rule, args, expr, or, and, eq, rel, add, mul, unary, postfix, primary, P, token, rule_of, chain, link, end, inside, call, after_new, scope, scoped, selected, suffix, prefixes, leaves, enclosed, cast_to, another, assigning}
+use Rattle.mm_syntax.specs.Rules.{args, expr, or, and, eq, rel, add, mul, unary, postfix, primary, P, rule_of, chain, end, inside, call, after_new, scope, suffix, enclosed, another}
 use Rattle.mm_grammar.specs.Grammar.{name}
-use Rattle.mm_parse_unit.proofs.BoundsWeights.{total, Every, maybe_weight, MaybeGood, Short, weight}
-use Rattle.mm_parse_unit.proofs.BoundsParts.{Costs, tok, rule, both, gives, after, before, either, maybe, several, free, less}
-
-abbrev Free : {A : Type 0} → A → Type 0
-Free v = Unit {0}
+use Rattle.mm_parse_unit.proofs.BoundsWeights.{Free, total, Every, maybe_weight, MaybeGood, Short, weight}
+use Rattle.mm_parse_unit.proofs.BoundsParts.{Costs, one_token, rule, both, gives, after, before, either, maybe, several, less}
 
 -- ---- trees
 
@@ -110,28 +107,28 @@ listed_good None h = tt
 listed_good (Some xs) h = h
 
 pub inside_costs : Costs inside (λ xs. list_weight xs + 1) (Every Short)
-inside_costs = before (gives (maybe (rule args)) listed_weight listed_good) tok
+inside_costs = before (gives (maybe (rule args)) listed_weight listed_good) one_token
 
 pub call_costs : Costs call (λ xs. 1 + (list_weight xs + 1)) (Every Short)
-call_costs = after tok inside_costs
+call_costs = after one_token inside_costs
 
 made_weight : (p : Place) (class : Token) (xs : Option (List Expr)) → tokens_of (b.begun (b.made class xs) p).tree ≤ 1 + (1 + maybe_weight (λ ys. 1 + (list_weight ys + 1)) xs)
 made_weight p class None = omega (arith, new_tokens class p)
 made_weight p class (Some xs) = omega (arith, make_tokens class xs p)
 
 pub enclosed_costs : Costs enclosed (λ v. 1 + (tokens_of v.tree + 1)) (λ v. Short v.tree)
-enclosed_costs = after tok (before (rule expr) tok)
+enclosed_costs = after one_token (before (rule expr) one_token)
 
 pub another_costs : Costs another (λ x. 1 + tokens_of x) Short
-another_costs = gives (after tok (rule expr)) (λ w. omega arith) (λ w h. h)
+another_costs = gives (after one_token (rule expr)) (λ w. omega arith) (λ w h. h)
 
 end_costs : Costs end end_weight Free
 end_costs = either
-    (gives (both tok (both (rule expr) (after tok (rule expr)))) (λ w. omega arith) (λ w h. tt))
-    (gives (both tok (rule expr)) (λ w. omega arith) (λ w h. tt))
+    (gives (both one_token (both (rule expr) (after one_token (rule expr)))) (λ w. omega arith) (λ w h. tt))
+    (gives (both one_token (rule expr)) (λ w. omega arith) (λ w h. tt))
 
 pub scope_costs : Costs scope (λ t. 2) Free
-scope_costs = less (before tok tok) (λ w. omega arith) (λ w h. tt)
+scope_costs = less (before one_token one_token) (λ w. omega arith) (λ w h. tt)
 
 member_weight : (op word : Token) (class : Option Token) → suffix_weight (b.member_of op class word) ≤ 1 + (maybe_weight (λ t. 2) class + 1)
 member_weight op word None = omega arith
@@ -141,13 +138,13 @@ suffix_costs : Costs suffix suffix_weight Free
 suffix_costs = either
     (gives call_costs (λ xs. omega arith) (λ w h. tt))
     (either
-    (gives (both tok (both (maybe scope_costs) tok)) (λ w. member_weight w.0 w.1.1 w.1.0) (λ w h. tt))
-    (gives tok (λ t. omega arith) (λ w h. tt)))
+    (gives (both one_token (both (maybe scope_costs) one_token)) (λ w. member_weight w.0 w.1.1 w.1.0) (λ w h. tt))
+    (gives one_token (λ t. omega arith) (λ w h. tt)))
 
 -- ---- rules
 
 chain_costs : (p : P Begun) (operators : List Symbol) → Costs p (λ v. tokens_of v.tree) Free → Costs (chain p operators) (λ v. tokens_of v.tree) Free
-chain_costs p operators c = gives (both c (several (both tok c))) (λ w. joined_tokens w.0 w.1) (λ w h. tt)
+chain_costs p operators c = gives (both c (several (both one_token c))) (λ w. joined_tokens w.0 w.1) (λ w h. tt)
 
 pub expr_costs : Costs (rule_of expr) (weight expr) Free
 expr_costs = gives (both (rule or) (maybe end_costs)) (λ w. ended_tokens w.0 w.1) (λ w h. tt)
@@ -175,12 +172,12 @@ postfix_costs = gives (both (rule primary) (several suffix_costs)) (λ w. suffix
 
 pub primary_costs : Costs (rule_of primary) (weight primary) Free
 primary_costs = either
-    (gives tok (λ t. omega (arith, leaf_tokens (symbol_of t) t t.place)) (λ w h. tt))
+    (gives one_token (λ t. omega (arith, leaf_tokens (symbol_of t) t t.place)) (λ w h. tt))
     (either
-    (gives (both tok (before (rule expr) tok)) (λ w. omega arith) (λ w h. tt))
+    (gives (both one_token (before (rule expr) one_token)) (λ w. omega arith) (λ w h. tt))
     (either
-    (gives (both scope_costs tok) (λ w. omega (arith, scoped_tokens w.0 w.1)) (λ w h. tt))
-    (gives (both tok (both (after tok (before (before tok tok) tok)) enclosed_costs)) (λ w. omega (arith, cast_tokens w.0 w.1.0 w.1.1)) (λ w h. tt))))
+    (gives (both scope_costs one_token) (λ w. omega (arith, scoped_tokens w.0 w.1)) (λ w h. tt))
+    (gives (both one_token (both (after one_token (before (before one_token one_token) one_token)) enclosed_costs)) (λ w. omega (arith, cast_tokens w.0 w.1.0 w.1.1)) (λ w h. tt))))
 
 pub args_costs : Costs (rule_of args) (weight args) (Every Short)
 args_costs = gives (both (rule expr) (several another_costs)) (λ w. omega (arith, listed_more (tokens_of w.0.tree) w.1)) (λ w h. h)
@@ -196,11 +193,11 @@ abbrev new_weight : ExprKind → ℕ
 new_weight x = tokens_of (b.begun x somewhere).tree - 1
 
 after_new_costs : Costs after_new new_weight Free
-after_new_costs = gives (both tok (maybe call_costs)) (λ w. omega (arith, made_weight somewhere w.0 w.1)) (λ w h. tt)
+after_new_costs = gives (both one_token (maybe call_costs)) (λ w. omega (arith, made_weight somewhere w.0 w.1)) (λ w h. tt)
 
 pub unary_costs : Costs (rule_of unary) (weight unary) Free
 unary_costs = either
-    (gives (both tok (rule unary)) (λ w. omega (arith, prefixed_tokens w.0 w.1)) (λ w h. tt))
+    (gives (both one_token (rule unary)) (λ w. omega (arith, prefixed_tokens w.0 w.1)) (λ w h. tt))
     (either
-    (gives (both tok after_new_costs) (λ w. omega (arith, same_tokens w.1 w.0.place somewhere)) (λ w h. tt))
+    (gives (both one_token after_new_costs) (λ w. omega (arith, same_tokens w.1 w.0.place somewhere)) (λ w h. tt))
     (rule postfix))

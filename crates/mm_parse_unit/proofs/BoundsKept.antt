@@ -1,9 +1,8 @@
 -- Each unit that was read keeps the bounds.
-use Rattle.std.proofs.Common.{◌≡◌, ℕ, zero, suc, ◌+◌, ◌≤◌, ◌^◌, Bool, true, false, IsTrue, List, [], ◌∷◌, ◌++◌, length, map, flat_map, sum, All, refl, sym, ap, ◌∙◌, subst, arith}
+use Rattle.std.proofs.Common.{◌≡◌, zero, suc, ◌+◌, ◌≤◌, ◌^◌, List, length, flat_map, refl, sym, ap, subst, arith}
 use Rattle.mm_token.specs.declared.token.Token.{Token}
 use Rattle.mm_token.specs.declared.token.Tokens.{Tokens}
 use Rattle.mm_grammar.specs.Grammar.{spells_in}
-use Rattle.mm_syntax.specs.declared.stmt.Stmt.{Stmt}
 use Rattle.mm_syntax.specs.declared.decl.FnDecl.{FnDecl}
 use Rattle.mm_syntax.specs.declared.decl.Decl.{Decl}
 use Rattle.mm_syntax.specs.declared.decl.Unit.{Unit as UnitTree}
@@ -11,8 +10,8 @@ use Rattle.mm_syntax.specs.Limits.{exprs_of_stmt, depth_of, variables_of, fn_bod
 use Rattle.mm_syntax.specs.Rules.{Rule, unit, decl, item, params, param, inits, init, block, stmt, var, declarator, type_name, args, expr, or, and, eq, rel, add, mul, unary, postfix, primary, Value, units, rule_of}
 use Rattle.mm_parse_unit.specs.Units.{nesting, IsUnit, IsTreeOf}
 use Rattle.mm_parse_unit.proofs.BoundsInduction.{by_rules}
-use Rattle.mm_parse_unit.proofs.BoundsCount.{NoStops, Counted, counted, counted_whole}
-use Rattle.mm_parse_unit.proofs.BoundsWeights.{total, Every, Short, GoodStmt, GoodInit, fn_weight, GoodFn, decl_weight, GoodDecl, weight, Good, Cost, Q}
+use Rattle.mm_parse_unit.proofs.BoundsCount.{counted, counted_whole}
+use Rattle.mm_parse_unit.proofs.BoundsWeights.{total, Every, Short, GoodStmt, fn_weight, GoodFn, decl_weight, GoodDecl, RuleCosts}
 use Rattle.mm_parse_unit.proofs.BoundsLists.{every_all, every_append, every_flat, every_along, sum_total, total_flat, total_both, total_length}
 use Rattle.mm_parse_unit.proofs.BoundsParts.{clean}
 use Rattle.mm_parse_unit.proofs.BoundsExpr.{args_costs, expr_costs, or_costs, and_costs, eq_costs, rel_costs, add_costs, mul_costs, unary_costs, postfix_costs, primary_costs}
@@ -22,13 +21,13 @@ use Rattle.mm_parse_unit.proofs.BoundsDecl.{unit_costs, decl_costs, item_costs, 
 -- ---- rules
 
 -- an expression within the count is short
-expr_step : (ts : List Token) (v : Value expr) → spells_in units Q (rule_of expr) ts v → Q expr ts v
+expr_step : (ts : List Token) (v : Value expr) → spells_in units RuleCosts (rule_of expr) ts v → RuleCosts expr ts v
 expr_step ts v h =
     let n = clean (rule_of expr) refl ts v h in
     let c = expr_costs.at ts v h in
     (λ e. n, (c.0, λ i. omega (arith, c.0, counted_whole ts i n)))
 
-step : (x : Rule) (ts : List Token) (v : Value x) → spells_in units Q (rule_of x) ts v → Q x ts v
+step : (x : Rule) (ts : List Token) (v : Value x) → spells_in units RuleCosts (rule_of x) ts v → RuleCosts x ts v
 step (unit n) ts v h = (λ e. absurd (cc), (unit_costs n).at ts v h)
 step (decl n) ts v h = (λ e. absurd (cc), (decl_costs n).at ts v h)
 step (item n) ts v h = (λ e. absurd (cc), (item_costs n).at ts v h)
@@ -58,7 +57,7 @@ step primary ts v h = (λ e. clean (rule_of primary) refl ts v h, primary_costs.
 
 unit_cost : (tokens : List Token) (decls : List Decl) → IsUnit tokens decls → (total decl_weight decls ≤ length tokens) × Every (GoodDecl nesting) decls
 unit_cost tokens decls h =
-    let q = by_rules Q step (unit nesting) tokens decls h.spelled in
+    let q = by_rules RuleCosts step (unit nesting) tokens decls h.spelled in
     (q.1.0, q.1.1 (counted tokens h.counted))
 
 functions_good : (tree : UnitTree) → Every (GoodDecl nesting) tree.decls → Every (GoodFn nesting) (functions_of tree)
@@ -73,8 +72,8 @@ inits_good x h = every_flat Short (λ y. y.arguments) (fn_inits x.kind) h.0
 exprs_good : (tree : UnitTree) → Every (GoodFn nesting) (functions_of tree) → Every Short (exprs_of tree)
 exprs_good tree h =
     every_append Short (flat_map (λ x. flat_map (λ y. y.arguments) (fn_inits x.kind)) (functions_of tree)) (flat_map exprs_of_stmt (bodies_of tree))
-      (every_flat Short (λ x. flat_map (λ y. y.arguments) (fn_inits x.kind)) (functions_of tree) (every_along (GoodFn nesting) (λ x. Every Short (flat_map (λ y. y.arguments) (fn_inits x.kind))) inits_good (functions_of tree) h))
-      (every_flat Short exprs_of_stmt (bodies_of tree) (every_along (GoodStmt nesting) (λ x. Every Short (exprs_of_stmt x)) (λ x i. i.0) (bodies_of tree) (bodies_good tree h)))
+    (every_flat Short (λ x. flat_map (λ y. y.arguments) (fn_inits x.kind)) (functions_of tree) (every_along (GoodFn nesting) (λ x. Every Short (flat_map (λ y. y.arguments) (fn_inits x.kind))) inits_good (functions_of tree) h))
+    (every_flat Short exprs_of_stmt (bodies_of tree) (every_along (GoodStmt nesting) (λ x. Every Short (exprs_of_stmt x)) (λ x i. i.0) (bodies_of tree) (bodies_good tree h)))
 
 -- each name is counted at one declaration
 names_are : (tree : UnitTree) → names_of tree ≡ total decl_weight tree.decls

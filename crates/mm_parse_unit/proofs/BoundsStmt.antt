@@ -1,5 +1,5 @@
 -- The expressions of a statement are short, it doesn't nest deeper than its rule, and it has no more variables than tokens.
-use Rattle.std.proofs.Common.{◌≡◌, ℕ, zero, suc, ◌+◌, ◌≤◌, max, List, [], ◌∷◌, ◌++◌, length, map, flat_map, sum, Option, Some, None, refl, sym, subst, arith, rules}
+use Rattle.std.proofs.Common.{◌≡◌, ℕ, zero, suc, ◌+◌, ◌≤◌, max, List, [], ◌∷◌, ◌++◌, length, map, flat_map, sum, Option, Some, None, sym, subst, arith, rules}
 use Rattle.mm_base.specs.declared.place.Place.{Place}
 use Rattle.mm_token.specs.declared.token.Token.{Token}
 use Rattle.mm_syntax.specs.declared.symbol.Symbol.{Symbol}
@@ -9,22 +9,18 @@ use Rattle.mm_syntax.specs.declared.stmt.Stmt.{Stmt}
 use Rattle.mm_syntax.specs.declared.stmt.StmtKind.{the_lemmas}
 use Rattle.mm_syntax.specs.declared.stmt.StmtKind.TheVariants as s
 use Rattle.mm_syntax.specs.declared.stmt.Initializer.{Initializer}
-use Rattle.mm_syntax.specs.declared.stmt.Declarator.{Declarator}
 use Rattle.mm_syntax.specs.declared.stmt.Variables.{Variables}
 use Rattle.mm_syntax.specs.declared.stmt.ForStart.{ForStart}
 use Rattle.mm_syntax.specs.declared.part.Begun.{Begun}
 use Rattle.mm_syntax.specs.BuiltStatements as bs
-use Rattle.mm_syntax.specs.Limits.{tokens_of, exprs_of_stmt, depth_of, variables_of, variables_exprs, initializer_exprs, start_exprs, start_variables, most}
+use Rattle.mm_syntax.specs.Limits.{exprs_of_stmt, depth_of, variables_of, variables_exprs, initializer_exprs, start_exprs, start_variables, most}
 use Rattle.mm_syntax.specs.Limits.{maybe as listed_if}
-use Rattle.mm_syntax.specs.Rules.{Rule, block, stmt, var, declarator, type_name, args, expr, P, token, rule_of, number_type, class_type, void_type, mark, initial, next_declarator, expr_stmt, simple_stmt, for_start, otherwise, branches, maybe_expr, if_stmt, while_stmt, do_stmt, for_stmt, empty_stmt, break_stmt, continue_stmt, return_stmt}
-use Rattle.mm_grammar.specs.Grammar.{name, many}
-use Rattle.mm_parse_unit.proofs.BoundsWeights.{total, Every, maybe_weight, MaybeGood, Short, GoodStmt, weight, Good}
+use Rattle.mm_syntax.specs.Rules.{block, stmt, var, declarator, type_name, args, expr, P, rule_of, number_type, class_type, void_type, mark, initial, expr_stmt, simple_stmt, for_start, branches, maybe_expr, if_stmt, while_stmt, do_stmt, for_stmt, return_stmt}
+use Rattle.mm_grammar.specs.Grammar.{many}
+use Rattle.mm_parse_unit.proofs.BoundsWeights.{Free, Every, maybe_weight, MaybeGood, Short, GoodStmt, weight, Good}
 use Rattle.mm_parse_unit.proofs.BoundsLists.{every_append, every_flat, every_map, every_along, sum_total, total_length}
-use Rattle.mm_parse_unit.proofs.BoundsParts.{Costs, tok, rule, both, gives, after, before, either, forked, maybe, several, free, less, tail}
+use Rattle.mm_parse_unit.proofs.BoundsParts.{Costs, one_token, rule, both, gives, after, before, either, forked, maybe, several, less, tail}
 use Rattle.mm_parse_unit.proofs.BoundsExpr.{enclosed_costs}
-
-abbrev Free : {A : Type 0} → A → Type 0
-Free v = Unit {0}
 
 -- ---- types and variables
 
@@ -32,34 +28,34 @@ pub items_costs : {A : Type 0} {p : P A} {G : A → Type 0} → Costs p (λ v. 1
 items_costs x = less (several x) (λ v. omega (arith, total_length v)) (λ v h. h)
 
 pub void_costs : Costs void_type (λ v. 1) Free
-void_costs = gives tok (λ t. omega arith) (λ t h. tt)
+void_costs = gives one_token (λ t. omega arith) (λ t h. tt)
 
 pub number_costs : Costs number_type (λ v. 1) Free
-number_costs = either (gives tok (λ t. omega arith) (λ t h. tt)) (gives (both tok (maybe tok)) (λ t. omega arith) (λ t h. tt))
+number_costs = either (gives one_token (λ t. omega arith) (λ t h. tt)) (gives (both one_token (maybe one_token)) (λ t. omega arith) (λ t h. tt))
 
 pub class_costs : Costs class_type (λ v. 1) Free
-class_costs = gives tok (λ t. omega arith) (λ t h. tt)
+class_costs = gives one_token (λ t. omega arith) (λ t h. tt)
 
 pub type_costs : Costs (rule_of type_name) (weight type_name) Free
 type_costs = either void_costs (either number_costs class_costs)
 
 initial_costs : Costs initial (λ v. 0) (λ v. Every Short (initializer_exprs v))
 initial_costs = either
-    (gives (after tok (rule expr)) (λ w. omega arith) (λ w h. (h, tt)))
-    (gives (after tok (before (rule args) tok)) (λ w. omega arith) (λ w h. h))
+    (gives (after one_token (rule expr)) (λ w. omega arith) (λ w h. (h, tt)))
+    (gives (after one_token (before (rule args) one_token)) (λ w. omega arith) (λ w h. h))
 
 initial_good : (v : Option Initializer) → MaybeGood (λ x. Every Short (initializer_exprs x)) v → Every Short (initializer_exprs (bs.initial v))
 initial_good None h = tt
 initial_good (Some x) h = h
 
 pub mark_costs : Costs mark (λ v. 1) Free
-mark_costs = gives tok (λ t. omega arith) (λ t h. tt)
+mark_costs = gives one_token (λ t. omega arith) (λ t h. tt)
 
 pub declarator_costs : Costs (rule_of declarator) (weight declarator) (Good declarator)
-declarator_costs = gives (both (maybe mark_costs) (both tok (maybe initial_costs))) (λ w. omega arith) (λ w h. initial_good w.1.1 h.1.1)
+declarator_costs = gives (both (maybe mark_costs) (both one_token (maybe initial_costs))) (λ w. omega arith) (λ w h. initial_good w.1.1 h.1.1)
 
 pub var_costs : Costs (rule_of var) (weight var) (Good var)
-var_costs = gives (both (rule type_name) (both (rule declarator) (before (items_costs (less (after tok (rule declarator)) (λ w. omega arith) (λ w h. h))) tok))) (λ w. omega arith)
+var_costs = gives (both (rule type_name) (both (rule declarator) (before (items_costs (less (after one_token (rule declarator)) (λ w. omega arith) (λ w h. h))) one_token))) (λ w. omega arith)
     (λ w h. every_flat Short (λ x. initializer_exprs x.initializer) (w.1.0 ∷ w.1.1) h.1)
 
 -- ---- trees
@@ -157,10 +153,10 @@ returned_variables word v = search (rules, the_lemmas)
 -- ---- parts
 
 expr_stmt_costs : Costs expr_stmt (λ v. 0) (λ v. Short v.tree)
-expr_stmt_costs = less (before (rule expr) tok) (λ w. omega arith) (λ w h. h)
+expr_stmt_costs = less (before (rule expr) one_token) (λ w. omega arith) (λ w h. h)
 
 maybe_expr_costs : (last : Symbol) → Costs (maybe_expr last) (λ v. 0) (MaybeGood (λ v. Short v.tree))
-maybe_expr_costs last = less (before (maybe (rule expr)) tok) (λ w. omega arith) (λ w h. h)
+maybe_expr_costs last = less (before (maybe (rule expr)) one_token) (λ w. omega arith) (λ w h. h)
 
 simple_costs : (n : ℕ) → Costs simple_stmt variables_of (GoodStmt n)
 simple_costs n = forked
@@ -169,39 +165,39 @@ simple_costs n = forked
 
 for_start_costs : Costs for_start start_variables (λ v. Every Short (start_exprs v))
 for_start_costs = either
-    (gives tok (λ t. omega arith) (λ t h. tt))
+    (gives one_token (λ t. omega arith) (λ t h. tt))
     (forked (gives expr_stmt_costs (λ v. omega arith) (λ v h. (h, tt))) (gives (rule var) (λ v. omega arith) (λ v h. h)))
 
 branches_costs : (n : ℕ) → Costs (branches n) (λ v. variables_of v.0 + maybe_weight variables_of v.1) (λ v. Inner n v.0 × MaybeGood (Inner n) v.1)
-branches_costs n = tail (rule (stmt n)) (less (after tok (rule (stmt n))) (λ w. omega arith) (λ w h. h))
+branches_costs n = tail (rule (stmt n)) (less (after one_token (rule (stmt n))) (λ w. omega arith) (λ w h. h))
 
 if_costs : (n : ℕ) → Costs (if_stmt n) variables_of (GoodStmt n)
-if_costs n = gives (both tok (both enclosed_costs (branches_costs n)))
+if_costs n = gives (both one_token (both enclosed_costs (branches_costs n)))
     (λ w. omega (arith, branched_variables w.0 w.1.0 w.1.1.0 w.1.1.1))
     (λ w h. branched_good n w.0 w.1.0 w.1.1.0 w.1.1.1 h.1.0 h.1.1.0 h.1.1.1)
 
 while_costs : (n : ℕ) → Costs (while_stmt n) variables_of (GoodStmt n)
-while_costs n = gives (both tok (both enclosed_costs (rule (stmt n))))
+while_costs n = gives (both one_token (both enclosed_costs (rule (stmt n))))
     (λ w. omega (arith, looped_variables w.0 w.1.0 w.1.1))
     (λ w h. looped_good n w.0 w.1.0 w.1.1 h.1.0 h.1.1)
 
 do_costs : (n : ℕ) → Costs (do_stmt n) variables_of (GoodStmt n)
-do_costs n = gives (both tok (both (rule (stmt n)) (after tok (before enclosed_costs tok))))
+do_costs n = gives (both one_token (both (rule (stmt n)) (after one_token (before enclosed_costs one_token))))
     (λ w. omega (arith, done_variables w.0 w.1.0 w.1.1))
     (λ w h. done_good n w.0 w.1.0 w.1.1 h.1.0 h.1.1)
 
 for_costs : (n : ℕ) → Costs (for_stmt n) variables_of (GoodStmt n)
-for_costs n = gives (both tok (both (after tok for_start_costs) (both (maybe_expr_costs k.Semicolon) (both (maybe_expr_costs k.Close) (rule (stmt n))))))
+for_costs n = gives (both one_token (both (after one_token for_start_costs) (both (maybe_expr_costs k.Semicolon) (both (maybe_expr_costs k.Close) (rule (stmt n))))))
     (λ w. omega (arith, repeated_variables w.0 w.1.0 w.1.1.0 w.1.1.1.0 w.1.1.1.1))
     (λ w h. repeated_good n w.0 w.1.0 w.1.1.0 w.1.1.1.0 w.1.1.1.1 h.1.0 h.1.1.0 h.1.1.1.0 h.1.1.1.1)
 
 return_costs : (n : ℕ) → Costs return_stmt variables_of (GoodStmt n)
-return_costs n = gives (both tok (maybe_expr_costs k.Semicolon)) (λ w. omega (arith, returned_variables w.0 w.1)) (λ w h. returned_good n w.0 w.1 h.1)
+return_costs n = gives (both one_token (maybe_expr_costs k.Semicolon)) (λ w. omega (arith, returned_variables w.0 w.1)) (λ w h. returned_good n w.0 w.1 h.1)
 
 -- ---- rules
 
 pub block_costs : (n : ℕ) → Costs (rule_of (block n)) (weight (block n)) (Good (block n))
-block_costs n = gives (both tok (before (several (rule (stmt n))) tok))
+block_costs n = gives (both one_token (before (several (rule (stmt n))) one_token))
     (λ w. omega (arith, block_variables w.0 w.1, sum_total variables_of w.1))
     (λ w h. block_good n w.0 w.1 h.1)
 
@@ -212,13 +208,13 @@ none_costs = record { at = λ ts v h. absurd (let i = h.2.1 in cc) }
 pub stmt_costs : (n : ℕ) → Costs (rule_of (stmt (suc n))) (weight (stmt (suc n))) (Good (stmt (suc n)))
 stmt_costs n = less
     (either (rule (block n))
-    (either (gives tok (λ t. omega (arith, empty_variables t.place)) (λ t h. empty_good n t.place))
+    (either (gives one_token (λ t. omega (arith, empty_variables t.place)) (λ t h. empty_good n t.place))
     (either (simple_costs n)
     (either (if_costs n)
     (either (while_costs n)
     (either (do_costs n)
     (either (for_costs n)
-    (either (gives (before tok tok) (λ t. omega (arith, break_variables t.place)) (λ t h. break_good n t.place))
-    (either (gives (before tok tok) (λ t. omega (arith, continue_variables t.place)) (λ t h. continue_good n t.place))
+    (either (gives (before one_token one_token) (λ t. omega (arith, break_variables t.place)) (λ t h. break_good n t.place))
+    (either (gives (before one_token one_token) (λ t. omega (arith, continue_variables t.place)) (λ t h. continue_good n t.place))
     (return_costs n))))))))))
     (λ v. omega arith) (λ v h. (h.0, let l = h.1 in omega (arith, l)))

@@ -1,5 +1,5 @@
 -- What the tree of each rule may not exceed, and what holds of it.
-use Rattle.std.proofs.Common.{◌≡◌, ℕ, zero, suc, ◌+◌, ◌≤◌, Bool, true, false, IsTrue, List, [], ◌∷◌, ◌++◌, length, map, flat_map, Option, Some, None}
+use Rattle.std.proofs.Common.{ℕ, suc, ◌+◌, ◌≤◌, Bool, true, false, IsTrue, List, [], ◌∷◌, length, map, Option, Some, None}
 use Rattle.mm_token.specs.declared.token.Token.{Token}
 use Rattle.mm_syntax.specs.declared.expr.Expr.{Expr}
 use Rattle.mm_syntax.specs.declared.stmt.Stmt.{Stmt}
@@ -27,6 +27,10 @@ maybe_weight f (Some v) = f v
 abbrev pub MaybeGood : {A : Type 0} → (A → Type 0) → Option A → Type 0
 MaybeGood G None = Unit {0}
 MaybeGood G (Some v) = G v
+
+-- nothing is said of the tree
+abbrev pub Free : {A : Type 0} → A → Type 0
+Free v = Unit {0}
 
 -- ---- expressions and statements
 
@@ -123,8 +127,9 @@ is_plain postfix = true
 is_plain primary = true
 is_plain _ = false
 
+-- so many tokens or more, and this where they keep the count
 abbrev pub Cost : List Token → ℕ → Type 0 → Type 0
 Cost ts n G = (n ≤ length ts) × (Counted ts → G)
 
-abbrev pub Q : (x : Rule) → List Token → Value x → Type 0
-Q x ts v = (IsTrue (is_plain x) → NoStops ts) × Cost ts (weight x v) (Good x v)
+abbrev pub RuleCosts : (x : Rule) → List Token → Value x → Type 0
+RuleCosts x ts v = (IsTrue (is_plain x) → NoStops ts) × Cost ts (weight x v) (Good x v)
