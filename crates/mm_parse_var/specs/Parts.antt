@@ -1,7 +1,7 @@
 -- The parts of the grammar of variables that functions of their own read, their trees, and how a declaration of
 -- variables is told from an expression. ISO/IEC 14882:1998, 6.2, 6.7, 6.8 and 8.
-use Rattle.std.specs.Prelude.{Bool, true, false, not, List, [], ◌∷◌}
-use Rattle.mm_grammar.specs.Grammar.{name, seq, many, give}
+use Rattle.std.specs.Prelude.{Bool, true, false, not, ◌||◌, ◌&&◌, List, [], ◌∷◌, map}
+use Rattle.mm_grammar.specs.Grammar.{name, seq, many, give, has}
 use Rattle.mm_token.specs.declared.token.Token.{Token}
 use Rattle.mm_syntax.specs.declared.symbol.Symbol.{Symbol}
 use Rattle.mm_syntax.specs.declared.symbol.Symbol.TheVariants as k
@@ -13,7 +13,7 @@ use Rattle.mm_syntax.specs.declared.stmt.Initializer.{Initializer}
 use Rattle.mm_syntax.specs.declared.stmt.Initializer.TheVariants as initializer
 use Rattle.mm_syntax.specs.declared.stmt.ForStart.{ForStart}
 use Rattle.mm_syntax.specs.declared.stmt.ForStart.TheVariants as start
-use Rattle.mm_syntax.specs.Symbols.{symbol_of}
+use Rattle.mm_syntax.specs.Symbols.{symbol_of, number_of}
 use Rattle.mm_syntax.specs.Rules.{P, token, declarator, next_declarator, ◌◂◌}
 
 -- the declarators after this one, and it before them
@@ -36,23 +36,20 @@ expr_first v = start.Expr v.tree
 abbrev pub variables_first : Variables → ForStart
 variables_first v = start.Variables v
 
-abbrev pub is_scope : Symbol → Bool
-is_scope k.Scope = true
-is_scope _ = false
+-- The token is one of these.
+abbrev pub is_among : List Symbol → Token → Bool
+is_among symbols t = has (number_of (symbol_of t)) (map number_of symbols)
 
 abbrev pub begins_scope : List Token → Bool
 begins_scope [] = false
-begins_scope (t ∷ ts) = is_scope (symbol_of t)
+begins_scope (t ∷ ts) = is_among (k.Scope ∷ []) t
 
--- Whether this symbol and the tokens after it begin a declaration: a type that is a word, or a class without `::`.
-abbrev pub begins_with : Symbol → List Token → Bool
-begins_with k.Void ts = true
-begins_with k.Bool ts = true
-begins_with k.Int ts = true
-begins_with k.Unsigned ts = true
-begins_with k.Class ts = not (begins_scope ts)
-begins_with _ ts = false
+-- the types that are words
+abbrev pub type_words : List Symbol
+type_words = k.Void ∷ k.Bool ∷ k.Int ∷ k.Unsigned ∷ []
 
+-- Whether the tokens are read as a declaration of variables: where the first is a type that is a word, or a class
+-- without `::` after it.
 abbrev pub begins_variables : List Token → Bool
 begins_variables [] = false
-begins_variables (t ∷ ts) = begins_with (symbol_of t) ts
+begins_variables (t ∷ ts) = is_among type_words t || (is_among (k.Class ∷ []) t && not (begins_scope ts))

@@ -73,10 +73,10 @@ fn initial(alloc: Global, cursor: &mut Cursor<'_>) -> Result<Option<Boxed<Initia
         let value = parser::expr(alloc, cursor)?;
         return Ok(Some(build::value(alloc, value)?));
     }
-    if cursor.eat(&[Symbol::Open]).is_none() {
-        return Ok(None);
+    if cursor.eat(&[Symbol::Open]).is_some() {
+        let args = parser::args(alloc, cursor)?;
+        cursor.take(&[Symbol::Close])?;
+        return Ok(Some(build::arguments(alloc, args)?));
     }
-    let args = parser::args(alloc, cursor)?;
-    cursor.take(&[Symbol::Close])?;
-    Ok(Some(build::arguments(alloc, args)?))
+    Ok(None)
 }
