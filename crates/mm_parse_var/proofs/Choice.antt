@@ -1,5 +1,5 @@
 -- A declaration of variables or an expression, by one token or by two.
-use Rattle.std.proofs.Common.{◌≡◌, ℕ, ◌<◌, Bool, true, false, not, ◌||◌, ◌&&◌, IsTrue, List, [], ◌∷◌, ◌++◌, ◌⊎◌, inl, inr, map, length, refl, ap, sym, ◌∙◌, subst, arith, ◌+◌, None}
+use Rattle.std.proofs.Common.{◌≡◌, ◌<◌, Bool, true, false, not, IsTrue, List, [], ◌∷◌, ◌++◌, ◌⊎◌, inl, inr, map, length, refl, ap, sym, ◌∙◌, subst, arith, ◌+◌, None}
 use Rattle.std.proofs.lemmas.List.{length-append}
 use Rattle.mm_grammar.specs.Grammar.{name, fork, give, Front, Avoids, Reads, Fails, has}
 use Rattle.mm_grammar.specs.Ahead.{first_of, second_of, Good}

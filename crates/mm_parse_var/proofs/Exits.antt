@@ -1,11 +1,9 @@
 -- The exits of each reader of types, variables and simple statements, over plain lists of tokens.
-use Rattle.std.proofs.Common.{◌≡◌, ◌<◌, ◌≤◌, Bool, true, false, IsTrue, List, [], ◌∷◌, ◌++◌, ◌⊎◌, inl, inr, length, refl, ap, sym, ◌∙◌, subst, arith, Option, Some, None, append_assoc, option_copied}
-use Rattle.std.proofs.lemmas.List.{append-nil, length-append}
+use Rattle.std.proofs.Common.{◌≡◌, ◌≤◌, List, [], ◌∷◌, ◌++◌, length, refl, ap, sym, ◌∙◌, subst, arith, Option, Some, None, append_assoc, option_copied}
+use Rattle.std.proofs.lemmas.List.{append-nil}
 use Rattle.std.specs.Borrow.{Bor}
-use Rattle.mm_grammar.specs.Grammar.{name, seq, alt, fork, many, give, opt, Front, Avoids, Reads, Fails, has}
-use Rattle.mm_grammar.specs.Ahead.{first_of}
+use Rattle.mm_grammar.specs.Grammar.{name, seq, alt, many, give, opt, Reads, Fails}
 use Rattle.mm_grammar.proofs.Loops.{SoFar, once_more, ended_here, failed_inside, opt_none}
-use Rattle.mm_grammar.proofs.Forks.{Elsewhere, fork_first_ok, fork_first_fail, fork_second_ok, fork_second_fail}
 use Rattle.mm_token.specs.declared.token.Token.{Token}
 use Rattle.mm_syntax.specs.declared.symbol.Symbol.{Symbol}
 use Rattle.mm_syntax.specs.declared.symbol.Symbol.TheVariants as k
@@ -16,10 +14,9 @@ use Rattle.mm_syntax.specs.declared.part.Begun.{Begun}
 use Rattle.mm_syntax.specs.declared.stmt.Declarator.{Declarator}
 use Rattle.mm_syntax.specs.declared.stmt.Initializer.{Initializer}
 use Rattle.mm_syntax.specs.declared.stmt.Variables.{Variables}
-use Rattle.mm_syntax.specs.Symbols.{symbol_of, number_of}
 use Rattle.mm_syntax.specs.Built as b
 use Rattle.mm_syntax.specs.BuiltStatements as bs
-use Rattle.mm_syntax.specs.Rules.{P, units, token, rule_of, expr, args, type_name, declarator, var, void_type, number_type, class_type, mark, initial, next_declarator, expr_stmt, ◌▸◌, ◌◂◌}
+use Rattle.mm_syntax.specs.Rules.{P, units, token, expr, args, type_name, declarator, var, void_type, number_type, class_type, mark, initial, next_declarator, expr_stmt, ◌▸◌, ◌◂◌}
 use Rattle.mm_syntax.proofs.Claims.{ahead}
 use Rattle.mm_syntax.proofs.Fitting.{fit}
 use Rattle.mm_cursor.specs.Cursor.{Eats}

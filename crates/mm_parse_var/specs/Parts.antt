@@ -1,6 +1,6 @@
 -- The parts of the grammar of variables that functions of their own read, their trees, and how a declaration of
 -- variables is told from an expression. ISO/IEC 14882:1998, 6.2, 6.7, 6.8 and 8.
-use Rattle.std.specs.Prelude.{Bool, true, false, not, ◌||◌, ◌&&◌, List, [], ◌∷◌, map}
+use Rattle.std.specs.Prelude.{Bool, false, not, ◌||◌, ◌&&◌, List, [], ◌∷◌, map}
 use Rattle.mm_grammar.specs.Grammar.{name, seq, many, give, has}
 use Rattle.mm_token.specs.declared.token.Token.{Token}
 use Rattle.mm_syntax.specs.declared.symbol.Symbol.{Symbol}

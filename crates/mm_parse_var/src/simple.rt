@@ -5,8 +5,7 @@ ghost use Rattle.mm_cursor.specs.Cursor.{Answers};
 ghost use Rattle.mm_syntax.specs.Rules as rules;
 ghost use Rattle.mm_parse_var.specs.Parts.{begins_scope, begins_variables};
 
-use crate::build;
-use crate::vars;
+use crate::{build, vars};
 use mm_cursor::{Cursor, Stop};
 use mm_parse_expr::parser;
 use mm_syntax::part::Begun;

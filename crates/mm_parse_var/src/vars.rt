@@ -6,8 +6,7 @@ ghost use Rattle.mm_cursor.specs.Cursor.{Answers};
 ghost use Rattle.mm_syntax.specs.Rules as rules;
 ghost use Rattle.mm_parse_var.specs.Parts as parts;
 
-use crate::build;
-use crate::types;
+use crate::{build, types};
 use mm_cursor::{Cursor, Stop};
 use mm_parse_expr::parser;
 use mm_syntax::stmt::{Declarator, Initializer, Variables};

@@ -1,4 +1,3 @@
-use Rattle.std.proofs.Common.{[], ◌∷◌}
 use Rattle.mm_grammar.specs.Grammar.{alt}
 use Rattle.mm_syntax.specs.Rules.{number_type, class_type}
 use Rattle.mm_cursor.proofs.Steps.{tail}
