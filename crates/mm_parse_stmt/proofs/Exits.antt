@@ -1,7 +1,5 @@
 -- The exits of each reader of statements, over plain lists of tokens.
 use Rattle.std.proofs.Common.{◌≡◌, ℕ, zero, suc, ◌<◌, ◌≤◌, ◌+◌, Bool, true, false, IsTrue, List, [], ◌∷◌, ◌++◌, ◌⊎◌, ◌-◌, inl, inr, map, length, refl, ap, sym, ◌∙◌, subst, arith, Option, Some, None, append_assoc, not}
-use Rattle.std.specs.Borrow.{Bor}
-use Rattle.std.specs.Option.{is_none}
 use Rattle.std.proofs.lemmas.List.{append-nil, length-append}
 use Rattle.mm_grammar.specs.Grammar.{name, seq, alt, many, give, opt, tailed, Front, Spells, RuleSpells, RuleFront, Reads, Fails, has}
 use Rattle.mm_grammar.specs.Ahead.{Good, first_of, empty_of, disjoint}
@@ -37,14 +35,6 @@ t symbol = token (symbol ∷ [])
 
 abbrev pub st : ℕ → P Stmt
 st n = name (stmt n)
-
-pub took_one : (symbols : List Symbol) (ts r : List Token) (o : Option (Bor Token)) → false ≡ is_none o → Eats symbols ts o r → (x : Token) × Took symbols ts x r
-took_one symbols ts r (Some x) h i = (x.now, i)
-took_one symbols ts r None h i = absurd (cc)
-
-pub took_none : (symbols : List Symbol) (ts r : List Token) (o : Option (Bor Token)) → true ≡ is_none o → Eats symbols ts o r → Eats symbols ts None r
-took_none symbols ts r (Some x) h i = absurd (cc)
-took_none symbols ts r None h i = i
 
 -- a statement that was read took a token
 pub stmt_shorter : (n : ℕ) (ts r : List Token) (v : Stmt) → Reads units (st n) ts v r → length r < length ts

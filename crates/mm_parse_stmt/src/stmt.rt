@@ -45,7 +45,7 @@ fn block_end(
     Ok(build::block(alloc, brace, stmts)?)
 }
 
-/// A statement, in which one less than so many may stand one inside the other. At 0 none is read.
+/// A statement, where so many may stand one inside the other, this one counted. At 0 none is read.
 #[cycle(stmt)]
 fn stmt(alloc: Global, cursor: &mut Cursor<'_>, nesting: usize) -> Result<Boxed<Stmt>, Stop>
     ensures reads { Answers (name (rules.stmt nesting)) cursor.old result cursor.new }

@@ -1,36 +1,36 @@
-use Rattle.std.proofs.Common.{◌≡◌, suc, [], ◌∷◌, ◌-◌, length, ap, arith}
+use Rattle.std.proofs.Common.{◌≡◌, suc, [], ◌∷◌, ◌-◌, length, ap, sym, arith}
 use Rattle.mm_grammar.specs.Grammar.{name}
 use Rattle.mm_syntax.specs.declared.symbol.Symbol.TheVariants as k
 use Rattle.mm_syntax.specs.Rules.{stmt, enclosed, maybe_expr}
 use Rattle.mm_cursor.proofs.Steps.{err, tail, eats_some, eats_none}
 use Rattle.mm_parse_stmt.specs.Parts.{block_end, do_end, for_end, for_open, if_end, plain, until, while_end}
-use Rattle.mm_parse_stmt.proofs.Exits.{st, took_one, took_none, stmt_shorter, stmts_start, stmts_step, stmts_end, stmts_fail, if_no_condition, if_no_body, if_alone, if_no_other, if_both, while_no_condition, while_no_body, while_reads, do_no_body, do_no_condition, do_reads, for_no_start, for_no_condition, for_no_step, for_no_body, for_reads, none_left, stmt_block, stmt_no_block, stmt_if, stmt_no_if, stmt_while, stmt_no_while, stmt_do, stmt_no_do, stmt_for, stmt_no_for, stmt_plain, stmt_no_plain}
+use Rattle.mm_parse_stmt.proofs.Exits.{st, stmt_shorter, stmts_start, stmts_step, stmts_end, stmts_fail, if_no_condition, if_no_body, if_alone, if_no_other, if_both, while_no_condition, while_no_body, while_reads, do_no_body, do_no_condition, do_reads, for_no_start, for_no_condition, for_no_step, for_no_body, for_reads, none_left, stmt_block, stmt_no_block, stmt_if, stmt_no_if, stmt_while, stmt_no_while, stmt_do, stmt_no_do, stmt_for, stmt_no_for, stmt_plain, stmt_no_plain}
 use Rattle.mm_parse_stmt.proofs.stmt.+stmt.Goals as goal
 
 pub block_end-loop-alloc-init : goal.block_end-loop-alloc-init
 block_end-loop-alloc-init t c =
-    record { so_far = stmts_start c.args.nesting _ _ c.new.ensures; shorter = omega arith }
+    record { so_far = stmts_start c.args.nesting _ _ c.new-stmts.ensures; shorter = omega arith }
 
 pub block_end-returns-in_err-next-clause-reads : goal.block_end-returns-in_err-next-clause-reads
 block_end-returns-in_err-next-clause-reads t c =
-    err (st c.args.nesting) (block_end c.args.brace.now c.args.nesting) _ _ _ _ _ c.from_residual.ensures.1 c.in_err-next.ensures.reads λ f. stmts_fail c.args.brace.now c.args.nesting _ _ _ _ _ c.loop-alloc.invariant.so_far (took_none (k.CloseBrace ∷ []) _ _ _ c.loop-alloc-test.ensures c.eat.ensures) f
+    err (st c.args.nesting) (block_end c.args.brace.now c.args.nesting) _ _ _ _ _ c.from_residual.ensures.1 c.in_err-next.ensures.reads λ f. stmts_fail c.args.brace.now c.args.nesting _ _ _ _ _ c.loop-alloc.invariant.so_far (eats_none (k.CloseBrace ∷ []) _ _ _ (sym c.loop-alloc-test.ensures) c.eat.ensures) f
 
 pub block_end-loop-alloc-preserved : goal.block_end-loop-alloc-preserved
 block_end-loop-alloc-preserved t c =
-    let h = took_none (k.CloseBrace ∷ []) _ _ _ c.loop-alloc-test.ensures c.eat.ensures in
+    let h = eats_none (k.CloseBrace ∷ []) _ _ _ (sym c.loop-alloc-test.ensures) c.eat.ensures in
     let l = ap length h.0 in
     record { so_far = stmts_step c.args.nesting _ _ _ _ _ _ _ c.loop-alloc.invariant.so_far h c.in_ok-next.ensures.reads c.in_ok-push.ensures; shorter = omega (arith, l, c.in_ok-next.ensures.shorter, c.loop-alloc.invariant.shorter) }
 
 pub block_end-loop-alloc-smaller : goal.block_end-loop-alloc-smaller
 block_end-loop-alloc-smaller t c =
-    let h = took_none (k.CloseBrace ∷ []) _ _ _ c.loop-alloc-test.ensures c.eat.ensures in
+    let h = eats_none (k.CloseBrace ∷ []) _ _ _ (sym c.loop-alloc-test.ensures) c.eat.ensures in
     let l = ap length h.0 in
     let m = stmt_shorter c.args.nesting _ _ _ c.in_ok-next.ensures.reads in
     omega (arith, l, m)
 
 pub block_end-returns-clause-reads : goal.block_end-returns-clause-reads
 block_end-returns-clause-reads t c =
-    let x = took_one (k.CloseBrace ∷ []) _ _ _ c.loop-alloc-test.ensures c.eat.ensures in
+    let x = eats_some (k.CloseBrace ∷ []) _ _ _ (sym c.loop-alloc-test.ensures) c.eat.ensures in
     stmts_end c.args.brace.now c.args.nesting _ _ _ _ _ _ c.loop-alloc.invariant.so_far x.1 c.in_ok-block.ensures
 
 pub do_end-returns-in_err-body-clause-reads : goal.do_end-returns-in_err-body-clause-reads
