@@ -1,5 +1,5 @@
 -- After a statement that isn't closed, `else` goes on.
-use Rattle.std.proofs.Common.{◌≡◌, ℕ, zero, suc, Bool, true, false, IsTrue, List, [], ◌∷◌, ◌++◌, inl, inr, map, refl, ap, sym, ◌∙◌, subst, Option, Some, None, append_assoc, rules}
+use Rattle.std.proofs.Common.{◌≡◌, ℕ, zero, suc, Bool, true, false, IsTrue, List, [], ◌∷◌, ◌++◌, inl, inr, map, refl, ap, sym, ◌∙◌, Option, Some, None, append_assoc, rules}
 use Rattle.mm_base.specs.declared.place.Place.{Place}
 use Rattle.mm_grammar.specs.Grammar.{name, seq, Reads, Spells, Front, RuleSpells, Tail, spells_in, spells_at, has}
 use Rattle.mm_grammar.proofs.Deep.{spells_along}
@@ -7,7 +7,6 @@ use Rattle.mm_grammar.proofs.Closed.{fold_front}
 use Rattle.mm_token.specs.declared.token.Token.{Token}
 use Rattle.mm_syntax.specs.declared.symbol.Symbol.TheVariants as k
 use Rattle.mm_syntax.specs.declared.part.Begun.{Begun}
-use Rattle.mm_syntax.specs.declared.expr.Expr.{Expr}
 use Rattle.mm_syntax.specs.declared.stmt.Stmt.{Stmt}
 use Rattle.mm_syntax.specs.declared.stmt.StmtKind.{the_lemmas}
 use Rattle.mm_syntax.specs.declared.stmt.StmtKind.TheVariants as s
@@ -16,7 +15,7 @@ use Rattle.mm_syntax.specs.Symbols.{symbol_of, number_of}
 use Rattle.mm_syntax.specs.BuiltStatements as bs
 use Rattle.mm_syntax.specs.Rules.{P, units, token, stmt, enclosed, branches, otherwise, maybe_expr, for_start, if_stmt, while_stmt, for_stmt, ◌▸◌}
 use Rattle.mm_syntax.specs.Rules as rules_of
-use Rattle.mm_syntax.proofs.Nearest.{closed_if, closed_else, closed_while, closed_for}
+use Rattle.mm_syntax.proofs.Nearest.{closed_else, closed_while, closed_for}
 use Rattle.mm_cursor.proofs.Steps.{Took}
 
 -- ---- the statements that are closed
@@ -56,9 +55,6 @@ last_open v w body e c o = sym c ∙ (sym (ap bs.is_closed e) ∙ o)
 -- ---- with a token of `else` after them
 
 module _ (x : Token) (is_else : IsTrue (has (number_of (symbol_of x)) (map number_of (k.Else ∷ [])))) where
-  GoesOn : {A : Type 0} → P A → List Token → Type 0
-  GoesOn p u = Front units p (u ++ x ∷ [])
-
   module _ (m : ℕ) where
     lift : {A : Type 0} → (p : P A) (u : List Token) (v : A) → spells_in units (spells_at units m) p u v → Spells units p u v
     lift p u v h = spells_along units (spells_at units m) (RuleSpells units) (λ y us w i. (m, i)) p u v h
@@ -98,9 +94,16 @@ module _ (x : Token) (is_else : IsTrue (has (number_of (symbol_of x)) (map numbe
       branches_go word condition u body (Some other) h o =
           let w = h.5.0 in
           let e = h.5.2 in
-          inr (h.0, (h.1 ++ x ∷ []), body, (ap (λ y. y ++ x ∷ []) h.2 ∙ append_assoc h.0 h.1 (x ∷ [])), lift (name (stmt n)) h.0 body h.3, h.4,
+          inr (
+            h.0,
+            (h.1 ++ x ∷ []),
+            body,
+            (ap (λ y. y ++ x ∷ []) h.2 ∙ append_assoc h.0 h.1 (x ∷ [])),
+            lift (name (stmt n)) h.0 body h.3,
+            h.4,
             after_first (token (k.Else ∷ [])) (name (stmt n)) h.1 e.0 e.1 w.0 e.2 e.3
-            (deeper e.1 w.1 e.4 (sym (ap bs.is_closed h.5.1) ∙ (sym (closed_else word condition body other) ∙ o))))
+                (deeper e.1 w.1 e.4 (sym (ap bs.is_closed h.5.1) ∙ (sym (closed_else word condition body other) ∙ o))),
+          )
 
       if_goes : (u : List Token) (v : Stmt) → spells_in units (spells_at units m) (if_stmt n) u v → bs.is_closed v ≡ false → Front units (if_stmt n) (u ++ x ∷ [])
       if_goes u v h o =

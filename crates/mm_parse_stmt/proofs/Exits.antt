@@ -1,9 +1,8 @@
 -- The exits of each reader of statements, over plain lists of tokens.
-use Rattle.std.proofs.Common.{◌≡◌, ℕ, zero, suc, ◌<◌, ◌≤◌, ◌+◌, Bool, true, false, IsTrue, List, [], ◌∷◌, ◌++◌, ◌⊎◌, ◌-◌, inl, inr, map, length, refl, ap, sym, ◌∙◌, subst, arith, Option, Some, None, append_assoc, not}
+use Rattle.std.proofs.Common.{◌≡◌, ℕ, zero, suc, ◌<◌, ◌≤◌, ◌+◌, false, IsTrue, List, [], ◌∷◌, ◌++◌, inl, inr, map, length, refl, ap, sym, ◌∙◌, subst, arith, Option, Some, None, append_assoc}
 use Rattle.std.proofs.lemmas.List.{append-nil, length-append}
-use Rattle.mm_grammar.specs.Grammar.{name, seq, alt, many, give, opt, tailed, Front, Spells, RuleSpells, RuleFront, Reads, Fails, has}
-use Rattle.mm_grammar.specs.Ahead.{Good, first_of, empty_of, disjoint}
-use Rattle.mm_grammar.proofs.Lists.{not_both}
+use Rattle.mm_grammar.specs.Grammar.{name, seq, alt, many, opt, Front, Spells, RuleSpells, RuleFront, Reads, Fails}
+use Rattle.mm_grammar.specs.Ahead.{Good, first_of, disjoint}
 use Rattle.mm_grammar.proofs.Laws.{spell_empty}
 use Rattle.mm_grammar.proofs.Closed.{lawful}
 use Rattle.mm_grammar.proofs.Reading.{one_fail, seq_ok, seq_fail_first, seq_fail_second}
@@ -17,9 +16,9 @@ use Rattle.mm_syntax.specs.declared.part.Begun.{Begun}
 use Rattle.mm_syntax.specs.declared.stmt.ForStart.{ForStart}
 use Rattle.mm_syntax.specs.declared.stmt.Stmt.{Stmt}
 use Rattle.mm_syntax.specs.declared.stmt.StmtKind.TheVariants as s
-use Rattle.mm_syntax.specs.Symbols.{symbol_of, number_of}
+use Rattle.mm_syntax.specs.Symbols.{number_of}
 use Rattle.mm_syntax.specs.BuiltStatements as bs
-use Rattle.mm_syntax.specs.Rules.{P, units, token, rule_of, stmt, block, expr, enclosed, branches, otherwise, maybe_expr, for_start, empty_stmt, simple_stmt, if_stmt, while_stmt, do_stmt, for_stmt, break_stmt, continue_stmt, return_stmt, ◌▸◌, ◌◂◌}
+use Rattle.mm_syntax.specs.Rules.{P, units, token, rule_of, stmt, block, expr, enclosed, branches, otherwise, maybe_expr, for_start, empty_stmt, simple_stmt, if_stmt, while_stmt, do_stmt, for_stmt, break_stmt, continue_stmt, return_stmt, ◌◂◌}
 use Rattle.mm_syntax.proofs.Claims.{ahead}
 use Rattle.mm_syntax.proofs.Fitting.{fit}
 use Rattle.mm_cursor.specs.Cursor.{Eats}
@@ -28,7 +27,7 @@ use Rattle.mm_parse_expr.specs.Parts.{closing}
 use Rattle.mm_parse_stmt.specs.declared.build.ForHead.{ForHead}
 use Rattle.mm_parse_stmt.specs.Parts.{Closes, block_end, if_end, while_end, until, do_end, for_open, for_end, plain, head_of, repeated}
 use Rattle.mm_parse_stmt.proofs.Else.{closed_before}
-use Rattle.mm_parse_stmt.proofs.Order.{from_for, from_do, from_while, from_if, from_block, sorted_reads, sorted_fails, good_if, good_block, now_reads, now_fails, later_reads, later_fails, word_reads, word_fails}
+use Rattle.mm_parse_stmt.proofs.Order.{from_for, from_do, from_while, from_if, sorted_reads, sorted_fails, good_if, good_block, now_reads, now_fails, later_reads, later_fails, word_reads, word_fails}
 
 abbrev t : Symbol → P Token
 t symbol = token (symbol ∷ [])

@@ -1,5 +1,5 @@
 -- The alternatives of a statement in the order in which they are tried.
-use Rattle.std.proofs.Common.{◌≡◌, ℕ, suc, ◌≤◌, IsTrue, List, [], ◌∷◌, ◌++◌, ◌⊎◌, inl, inr, map, length, refl, sym, subst, Option, None, not}
+use Rattle.std.proofs.Common.{◌≡◌, ℕ, suc, ◌≤◌, IsTrue, List, ◌∷◌, ◌++◌, ◌⊎◌, inl, inr, map, length, refl, subst, None, not}
 use Rattle.mm_grammar.specs.Grammar.{name, seq, alt, give, Front, Spells, Reads, Fails, has}
 use Rattle.mm_grammar.specs.Ahead.{Good, Sealed, first_of, empty_of, within}
 use Rattle.mm_grammar.proofs.Lists.{has-within}
