@@ -1,4 +1,5 @@
 //! Readers of statements and blocks.
 #![tactic(auto)]
 
+mod build;
 pub mod stmt;

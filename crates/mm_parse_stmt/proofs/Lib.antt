@@ -1,0 +1,3 @@
+pub mod Else
+pub mod Order
+pub mod Exits
