@@ -35,9 +35,9 @@ fn inside(alloc: Global, cursor: &mut Cursor<'_>) -> Result<Boxed<Params>, Stop>
         let list = Items::new(alloc);
         return Ok(build::params(alloc, list)?);
     }
-    let params = some_params(alloc, cursor)?;
+    let inner = some_params(alloc, cursor)?;
     cursor.take(&[Symbol::Close])?;
-    Ok(params)
+    Ok(inner)
 }
 
 /// `void` and what may follow it, or other parameters.
