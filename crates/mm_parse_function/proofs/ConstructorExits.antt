@@ -1,7 +1,7 @@
 -- The exits of each reader of initializers and constructor bodies, over plain lists of tokens.
 use Rattle.std.proofs.Common.{◌≡◌, ◌≤◌, List, [], ◌∷◌, ◌++◌, length, refl, ap, sym, ◌∙◌, subst, ℕ, Option, Some, None, append_assoc}
 use Rattle.std.proofs.lemmas.List.{append-nil}
-use Rattle.mm_grammar.specs.Grammar.{name, seq, many, give, opt, Reads, Fails}
+use Rattle.mm_grammar.specs.Grammar.{name, seq, many, opt, Reads, Fails}
 use Rattle.mm_grammar.proofs.Loops.{SoFar, begun, not_begun, once_more, ended_here, failed_inside}
 use Rattle.mm_token.specs.declared.token.Token.{Token}
 use Rattle.mm_syntax.specs.declared.symbol.Symbol.{Symbol}

@@ -1,5 +1,5 @@
 -- The exits of each reader of functions outside classes, over plain lists of tokens.
-use Rattle.std.proofs.Common.{◌≡◌, ◌≤◌, ℕ, List, [], ◌∷◌, length, refl, ap, ◌∙◌, Option, Some, None}
+use Rattle.std.proofs.Common.{◌≡◌, ◌≤◌, ℕ, List, [], ◌∷◌, length, refl, Option, Some, None}
 use Rattle.mm_grammar.specs.Grammar.{name, seq, give, opt, Reads, Fails}
 use Rattle.mm_token.specs.declared.token.Token.{Token}
 use Rattle.mm_syntax.specs.declared.symbol.Symbol.{Symbol}

@@ -2,7 +2,7 @@
 use Rattle.std.proofs.Common.{◌≡◌, ℕ, zero, suc, ◌+◌, ◌<◌, not, IsTrue, List, [], ◌∷◌, ◌++◌, inl, inr, length, refl, ap, sym, ◌∙◌, subst, arith, Option, Some, None, option_copied}
 use Rattle.std.specs.Borrow.{Bor}
 use Rattle.std.proofs.lemmas.List.{length-append}
-use Rattle.mm_grammar.specs.Grammar.{name, seq, give, opt, front_at, Begins, RuleFront, RuleSpells, Front, Spells, Reads, Fails, has}
+use Rattle.mm_grammar.specs.Grammar.{seq, opt, front_at, Begins, RuleFront, RuleSpells, Front, Spells, Reads, Fails}
 use Rattle.mm_grammar.specs.Ahead.{Good, first_of, empty_of}
 use Rattle.mm_grammar.proofs.Lists.{not_both}
 use Rattle.mm_grammar.proofs.Deep.{front_along}
@@ -12,10 +12,8 @@ use Rattle.mm_grammar.proofs.Loops.{opt_fail}
 use Rattle.mm_grammar.proofs.Here.{opt_none_of, opt_then_fail}
 use Rattle.mm_token.specs.declared.token.Token.{Token}
 use Rattle.mm_syntax.specs.declared.symbol.Symbol.TheVariants as k
-use Rattle.mm_syntax.specs.declared.decl.Params.{Params}
-use Rattle.mm_syntax.specs.Symbols.{symbol_of, number_of}
 use Rattle.mm_syntax.specs.BuiltDeclarations as bd
-use Rattle.mm_syntax.specs.Rules.{P, Rule, Value, units, token, rule_of, params, some_params}
+use Rattle.mm_syntax.specs.Rules.{P, Rule, units, token, rule_of, params, some_params}
 use Rattle.mm_syntax.proofs.Claims.{ahead}
 use Rattle.mm_syntax.proofs.Fitting.{fit}
 use Rattle.mm_cursor.specs.Cursor.{Eats}

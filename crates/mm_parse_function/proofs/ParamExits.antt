@@ -1,5 +1,5 @@
 -- The exits of each reader of parameters, over plain lists of tokens.
-use Rattle.std.proofs.Common.{◌≡◌, ◌≤◌, ◌<◌, List, [], ◌∷◌, ◌++◌, length, refl, ap, sym, ◌∙◌, subst, arith, Option, Some, None, option_copied, append_assoc}
+use Rattle.std.proofs.Common.{◌≡◌, ◌≤◌, List, [], ◌∷◌, ◌++◌, length, refl, ap, sym, ◌∙◌, subst, arith, Option, Some, None, option_copied, append_assoc}
 use Rattle.std.specs.Borrow.{Bor}
 use Rattle.std.proofs.lemmas.List.{append-nil}
 use Rattle.mm_grammar.specs.Grammar.{name, seq, alt, many, give, opt, Reads, Fails}
@@ -16,11 +16,11 @@ use Rattle.mm_syntax.specs.declared.decl.Params.{Params}
 use Rattle.mm_syntax.specs.declared.part.ParamEnd.{ParamEnd}
 use Rattle.mm_syntax.specs.Built as b
 use Rattle.mm_syntax.specs.BuiltDeclarations as bd
-use Rattle.mm_syntax.specs.Rules.{P, units, token, rule_of, params, param, type_name, mark, number_type, class_type, void_type, void_end, param_end, other_param, more_params, after_void, some_params, parameters}
+use Rattle.mm_syntax.specs.Rules.{P, units, token, params, param, type_name, mark, number_type, class_type, void_type, void_end, param_end, other_param, more_params, after_void, some_params, parameters}
 use Rattle.mm_syntax.proofs.Claims.{ahead}
 use Rattle.mm_syntax.proofs.Fitting.{fit}
 use Rattle.mm_cursor.specs.Cursor.{Eats}
-use Rattle.mm_cursor.proofs.Steps.{Took, good, ok_is, ate, other, avoid_both, taken_shorter, pair, first_fails, second_fails, gives, gives_not, named, named_not, after, after_fails, before, before_then_fails, some, some_fails, none, first_reads, first_one_fails, second_reads, second_one_fails}
+use Rattle.mm_cursor.proofs.Steps.{Took, good, ok_is, ate, other, avoid_both, taken_shorter, pair, first_fails, second_fails, gives, gives_not, named, named_not, after, after_fails, before, before_then_fails, some, first_reads, first_one_fails, second_reads, second_one_fails}
 use Rattle.mm_parse_expr.proofs.Turns.{ungive, ungive_not}
 use Rattle.mm_parse_function.specs.Parts.{inside_parameters, void_first, next_param, behind}
 use Rattle.mm_parse_function.proofs.Optional.{word_eaten, none_fails, none_seq, reads_takes, fails_behind}

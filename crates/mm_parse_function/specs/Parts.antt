@@ -1,5 +1,5 @@
 -- The parts of the grammar of functions that functions of their own read. ISO/IEC 14882:1998, 8.3.5, 8.4 and 12.6.2.
-use Rattle.std.specs.Prelude.{ℕ, List, [], ◌∷◌, ◌++◌}
+use Rattle.std.specs.Prelude.{ℕ, List, [], ◌∷◌}
 use Rattle.mm_grammar.specs.Grammar.{name, seq, many, give}
 use Rattle.mm_token.specs.declared.token.Token.{Token}
 use Rattle.mm_syntax.specs.declared.symbol.Symbol.TheVariants as k

@@ -32,11 +32,7 @@ pub fn param_end(
 }
 
 /// The same with a mark, of its token.
-pub fn marked_end(
-    alloc: Global,
-    mark: &Token,
-    word: Option<&Token>,
-) -> Result<ParamEnd, AllocError>
+pub fn marked_end(alloc: Global, mark: &Token, word: Option<&Token>) -> Result<ParamEnd, AllocError>
     ensures { IfOk result (λ v. v ≡ bd.param_end (Some (b.mark_of mark.now)) (option_copied word.entry)) }
 {
     param_end(alloc, Some(declarator_mark(mark)), word)

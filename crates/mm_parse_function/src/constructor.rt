@@ -16,7 +16,11 @@ use sqlite_items::{Boxed, Items};
 use std::alloc::Global;
 
 /// Initializers, which may be left out, and a block.
-pub fn constructor_body(alloc: Global, cursor: &mut Cursor<'_>, nesting: usize) -> Result<Boxed<ConstructorBody>, Stop>
+pub fn constructor_body(
+    alloc: Global,
+    cursor: &mut Cursor<'_>,
+    nesting: usize,
+) -> Result<Boxed<ConstructorBody>, Stop>
     ensures reads { Answers (rules.constructor_body nesting) cursor.old result cursor.new }
     ensures shorter { length cursor.new ≤ length cursor.old }
 {

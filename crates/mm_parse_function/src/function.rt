@@ -19,7 +19,11 @@ use sqlite_items::Boxed;
 use std::alloc::Global;
 
 /// What follows the type of a function.
-pub fn after_type(alloc: Global, cursor: &mut Cursor<'_>, nesting: usize) -> Result<Boxed<Declared>, Stop>
+pub fn after_type(
+    alloc: Global,
+    cursor: &mut Cursor<'_>,
+    nesting: usize,
+) -> Result<Boxed<Declared>, Stop>
     ensures reads { Answers (rules.after_type nesting) cursor.old result cursor.new }
     ensures shorter { length cursor.new ≤ length cursor.old }
 {
@@ -29,7 +33,11 @@ pub fn after_type(alloc: Global, cursor: &mut Cursor<'_>, nesting: usize) -> Res
 }
 
 /// What follows the mark of a function: a name first, or a class that the function is a member of.
-fn function_end(alloc: Global, cursor: &mut Cursor<'_>, nesting: usize) -> Result<Boxed<FunctionEnd>, Stop>
+fn function_end(
+    alloc: Global,
+    cursor: &mut Cursor<'_>,
+    nesting: usize,
+) -> Result<Boxed<FunctionEnd>, Stop>
     ensures reads { Answers (rules.function_end nesting) cursor.old result cursor.new }
     ensures shorter { length cursor.new ≤ length cursor.old }
 {
@@ -40,7 +48,12 @@ fn function_end(alloc: Global, cursor: &mut Cursor<'_>, nesting: usize) -> Resul
 }
 
 /// Parameters, and a block or `;`.
-fn plain_end(alloc: Global, cursor: &mut Cursor<'_>, nesting: usize, word: &Token) -> Result<Boxed<FunctionEnd>, Stop>
+fn plain_end(
+    alloc: Global,
+    cursor: &mut Cursor<'_>,
+    nesting: usize,
+    word: &Token,
+) -> Result<Boxed<FunctionEnd>, Stop>
     ensures reads { Answers (plain_end nesting word.now) cursor.old result cursor.new }
     ensures shorter { length cursor.new ≤ length cursor.old }
 {
@@ -50,7 +63,11 @@ fn plain_end(alloc: Global, cursor: &mut Cursor<'_>, nesting: usize, word: &Toke
 }
 
 /// `;`, or a block.
-fn function_body(alloc: Global, cursor: &mut Cursor<'_>, nesting: usize) -> Result<Option<Boxed<Stmt>>, Stop>
+fn function_body(
+    alloc: Global,
+    cursor: &mut Cursor<'_>,
+    nesting: usize,
+) -> Result<Option<Boxed<Stmt>>, Stop>
     ensures reads { Answers (rules.function_body nesting) cursor.old result cursor.new }
     ensures shorter { length cursor.new ≤ length cursor.old }
 {
@@ -62,7 +79,11 @@ fn function_body(alloc: Global, cursor: &mut Cursor<'_>, nesting: usize) -> Resu
 }
 
 /// A class, `::`, a name, parameters and a block.
-fn member_end(alloc: Global, cursor: &mut Cursor<'_>, nesting: usize) -> Result<Boxed<FunctionEnd>, Stop>
+fn member_end(
+    alloc: Global,
+    cursor: &mut Cursor<'_>,
+    nesting: usize,
+) -> Result<Boxed<FunctionEnd>, Stop>
     ensures reads { Answers (member_end nesting) cursor.old result cursor.new }
     ensures shorter { length cursor.new ≤ length cursor.old }
 {
@@ -75,7 +96,11 @@ fn member_end(alloc: Global, cursor: &mut Cursor<'_>, nesting: usize) -> Result<
 }
 
 /// What follows a class's name at the start of a declaration.
-pub fn after_class_name(alloc: Global, cursor: &mut Cursor<'_>, nesting: usize) -> Result<Boxed<AfterClass>, Stop>
+pub fn after_class_name(
+    alloc: Global,
+    cursor: &mut Cursor<'_>,
+    nesting: usize,
+) -> Result<Boxed<AfterClass>, Stop>
     ensures reads { Answers (rules.after_class_name nesting) cursor.old result cursor.new }
     ensures shorter { length cursor.new ≤ length cursor.old }
 {
@@ -87,7 +112,11 @@ pub fn after_class_name(alloc: Global, cursor: &mut Cursor<'_>, nesting: usize) 
 }
 
 /// A constructor behind `::`.
-fn constructor_tail(alloc: Global, cursor: &mut Cursor<'_>, nesting: usize) -> Result<Boxed<AfterClass>, Stop>
+fn constructor_tail(
+    alloc: Global,
+    cursor: &mut Cursor<'_>,
+    nesting: usize,
+) -> Result<Boxed<AfterClass>, Stop>
     ensures reads { Answers (constructor_tail nesting) cursor.old result cursor.new }
     ensures shorter { length cursor.new ≤ length cursor.old }
 {

@@ -22,8 +22,7 @@ pub fn parameters(alloc: Global, cursor: &mut Cursor<'_>) -> Result<Boxed<Params
     ensures shorter { length cursor.new ≤ length cursor.old }
 {
     cursor.take(&[Symbol::Open])?;
-    let inner = inside(alloc, cursor)?;
-    Ok(inner)
+    inside(alloc, cursor)
 }
 
 /// The parameters that follow `(`, of which there may be none, and the `)` after them.

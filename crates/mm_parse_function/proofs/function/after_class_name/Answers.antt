@@ -1,4 +1,4 @@
-use Rattle.std.proofs.Common.{[], ◌∷◌}
+use Rattle.std.proofs.Common.{[], ◌∷◌, length, ap, arith}
 use Rattle.mm_syntax.specs.declared.symbol.Symbol.TheVariants as k
 use Rattle.mm_syntax.specs.Rules.{after_type, after_class_name}
 use Rattle.mm_cursor.proofs.Steps.{err, tail, eats_some, eats_none}
@@ -18,3 +18,15 @@ returns-in_err-end-clause-reads c =
 pub returns-clause-reads : goal.returns-clause-reads
 returns-clause-reads c =
     class_type c.args.nesting _ _ _ _ _ (eats_none (k.Scope ∷ []) _ _ _ c.if-is_some.ensures c.eat.ensures) c.in_ok-end.ensures.reads c.in_ok-after_type.ensures
+
+pub returns-in_err-after_type-clause-shorter : goal.returns-in_err-after_type-clause-shorter
+returns-in_err-after_type-clause-shorter c =
+    let n = eats_none (k.Scope ∷ []) _ _ _ c.if-is_some.ensures c.eat.ensures in
+    let m = ap length n.0 in
+    omega (arith, m, c.after_type.ensures.shorter)
+
+pub returns-clause-shorter : goal.returns-clause-shorter
+returns-clause-shorter c =
+    let n = eats_none (k.Scope ∷ []) _ _ _ c.if-is_some.ensures c.eat.ensures in
+    let m = ap length n.0 in
+    omega (arith, m, c.after_type.ensures.shorter)

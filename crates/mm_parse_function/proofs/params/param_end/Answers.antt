@@ -1,4 +1,3 @@
-use Rattle.std.proofs.Common.{Option}
 use Rattle.mm_grammar.specs.Grammar.{opt}
 use Rattle.mm_syntax.specs.Rules.{mark, param_end}
 use Rattle.mm_cursor.proofs.Steps.{err}
