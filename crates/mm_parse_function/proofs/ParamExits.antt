@@ -66,9 +66,6 @@ object_type = alt number_type class_type
 abbrev virtuals : P (Token × (TypeName × ParamEnd))
 virtuals = seq (t k.Virtual) (seq (name type_name) param_end)
 
-abbrev virtual_param : P Param
-virtual_param = give (λ v. bd.param (Some v.0) v.1.0 v.1.1) virtuals
-
 virtual_fails : (ts us r : List Token) (x : Token) → Took (k.Virtual ∷ []) ts x us → length r ≤ length us → Fails units (seq (name type_name) param_end) us r → Fails units other_param ts r
 virtual_fails ts us r x h n a = first_one_fails _ _ (k.Virtual ∷ []) refl refl ts us r x h n
     (gives_not (λ v. bd.param (Some v.0) v.1.0 v.1.1) virtuals ts r (second_fails (t k.Virtual) (seq (name type_name) param_end) refl ts us r x (ate (k.Virtual ∷ []) ts us x h) a))
