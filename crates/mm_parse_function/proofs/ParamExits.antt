@@ -2,7 +2,7 @@
 use Rattle.std.proofs.Common.{◌≡◌, ◌≤◌, List, [], ◌∷◌, ◌++◌, length, refl, ap, sym, ◌∙◌, subst, arith, Option, Some, None, option_copied, append_assoc}
 use Rattle.std.specs.Borrow.{Bor}
 use Rattle.std.proofs.lemmas.List.{append-nil}
-use Rattle.mm_grammar.specs.Grammar.{name, seq, alt, many, give, opt, Reads, Fails}
+use Rattle.mm_grammar.specs.Grammar.{name, seq, alt, many, opt, Reads, Fails}
 use Rattle.mm_grammar.specs.Ahead.{first_of}
 use Rattle.mm_grammar.proofs.Loops.{SoFar, once_more, ended_here, failed_inside, opt_none}
 use Rattle.mm_grammar.proofs.Here.{opt_some_of, opt_fail_of, opt_fail_shorter}
