@@ -1,0 +1,4 @@
+pub mod Optional
+pub mod ParamExits
+pub mod ConstructorExits
+pub mod FunctionExits
