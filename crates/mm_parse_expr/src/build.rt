@@ -1,54 +1,20 @@
 // Trees of expressions, from their tokens and parts.
 
 ghost use Rattle.std.specs.Prelude.{◌≡◌, [], ◌∷◌, ◌++◌, IfOk, OnOk, option_copied};
-ghost use Rattle.mm_syntax.specs.Symbols.{symbol_of};
 ghost use Rattle.mm_syntax.specs.Built as b;
 ghost use Rattle.mm_parse_expr.specs.Parts.{cast_of, choice_of};
 
 use mm_base::place::Place;
-use mm_base::text::Text;
 use mm_syntax::expr::{Expr, ExprKind};
-use mm_syntax::name::{
-    AssignOperator, BinaryOperator, MemberOperator, Name, Number, StepOperator, UnaryOperator,
-};
+use mm_syntax::name::Name;
 use mm_syntax::part::{Begun, End, Suffix};
-use mm_syntax::symbol::{Symbol, classify};
+use mm_syntax::taken::{
+    assign_operator, binary_operator, leaf_kind, member_operator, name, step_operator,
+    unary_operator,
+};
 use mm_token::token::Token;
 use sqlite_items::{Boxed, Items};
 use std::alloc::{AllocError, Global};
-
-/// A name, or a class's name, with its place.
-fn name(alloc: Global, token: &Token) -> Result<Name, AllocError>
-    ensures { IfOk result (λ v. v ≡ b.name_of token.now) }
-{
-    let text = Text::from_str(alloc, token.text.as_str())?;
-    Ok(Name {
-        text,
-        place: token.place,
-    })
-}
-
-fn number(alloc: Global, token: &Token) -> Result<Number, AllocError>
-    ensures { IfOk result (λ v. v ≡ b.number_of_token token.now) }
-{
-    let text = Text::from_str(alloc, token.text.as_str())?;
-    Ok(Number {
-        text,
-        value: token.value,
-    })
-}
-
-fn leaf_kind(alloc: Global, token: &Token) -> Result<ExprKind, AllocError>
-    ensures { IfOk result (λ v. v ≡ b.leaf_for (symbol_of token.now) token.now) }
-{
-    Ok(match classify(token) {
-        Symbol::Number => ExprKind::Number(number(alloc, token)?),
-        Symbol::True => ExprKind::True,
-        Symbol::False => ExprKind::False,
-        Symbol::This => ExprKind::This,
-        _ => ExprKind::Name(Text::from_str(alloc, token.text.as_str())?),
-    })
-}
 
 /// A tree whose text begins at its own first token. Trees are handed on in boxes, so that frames stay small.
 fn begun(alloc: Global, kind: ExprKind, start: Place) -> Result<Boxed<Begun>, AllocError>
@@ -126,20 +92,6 @@ pub fn cast(
     begun(alloc, ExprKind::Cast(class.into_inner(), inner), word.place)
 }
 
-fn unary_operator(token: &Token) -> UnaryOperator
-    ensures { result ≡ b.unary_for (symbol_of token.now) }
-{
-    match classify(token) {
-        Symbol::Plus => UnaryOperator::Plus,
-        Symbol::Minus => UnaryOperator::Minus,
-        Symbol::Not => UnaryOperator::Not,
-        Symbol::Star => UnaryOperator::Indirection,
-        Symbol::And => UnaryOperator::AddressOf,
-        Symbol::PlusPlus => UnaryOperator::Increment,
-        _ => UnaryOperator::Decrement,
-    }
-}
-
 /// The tree of an operator before its operand.
 pub fn prefixed(alloc: Global, op: &Token, inner: Boxed<Begun>) -> Result<Boxed<Begun>, AllocError>
     ensures { IfOk result (λ v. v ≡ b.prefixed op.now inner) }
@@ -174,26 +126,6 @@ pub fn at_word(
     begun(alloc, kind.into_inner(), word.place)
 }
 
-fn binary_operator(token: &Token) -> BinaryOperator
-    ensures { result ≡ b.binary_for (symbol_of token.now) }
-{
-    match classify(token) {
-        Symbol::OrOr => BinaryOperator::Or,
-        Symbol::AndAnd => BinaryOperator::And,
-        Symbol::EqualEqual => BinaryOperator::Equal,
-        Symbol::NotEqual => BinaryOperator::NotEqual,
-        Symbol::Less => BinaryOperator::Less,
-        Symbol::Greater => BinaryOperator::Greater,
-        Symbol::LessEqual => BinaryOperator::LessOrEqual,
-        Symbol::GreaterEqual => BinaryOperator::GreaterOrEqual,
-        Symbol::Plus => BinaryOperator::Plus,
-        Symbol::Minus => BinaryOperator::Minus,
-        Symbol::Star => BinaryOperator::Times,
-        Symbol::Slash => BinaryOperator::Divide,
-        _ => BinaryOperator::Remainder,
-    }
-}
-
 /// The tree of an operator between two operands.
 pub fn operated(
     alloc: Global,
@@ -211,19 +143,6 @@ pub fn operated(
         ExprKind::Binary(left, binary_operator(op), op.place, right),
         start,
     )
-}
-
-fn assign_operator(token: &Token) -> AssignOperator
-    ensures { result ≡ b.assign_for (symbol_of token.now) }
-{
-    match classify(token) {
-        Symbol::Assign => AssignOperator::Set,
-        Symbol::PlusAssign => AssignOperator::Plus,
-        Symbol::MinusAssign => AssignOperator::Minus,
-        Symbol::StarAssign => AssignOperator::Times,
-        Symbol::SlashAssign => AssignOperator::Divide,
-        _ => AssignOperator::Remainder,
-    }
 }
 
 /// What `?` and the branches add to a condition.
@@ -286,15 +205,6 @@ fn choice(
     begun(alloc, ExprKind::Choose(left, place, yes, no), start)
 }
 
-fn member_operator(token: &Token) -> MemberOperator
-    ensures { result ≡ b.member_for (symbol_of token.now) }
-{
-    match classify(token) {
-        Symbol::Dot => MemberOperator::Dot,
-        _ => MemberOperator::Arrow,
-    }
-}
-
 /// A member, with a class before its name or without.
 pub fn member(
     alloc: Global,
@@ -320,15 +230,6 @@ pub fn called(alloc: Global, args: Items<Expr>) -> Result<Boxed<Suffix>, AllocEr
     ensures { IfOk result (λ v. v ≡ b.called args) }
 {
     Boxed::new(alloc, Suffix::Called(args))
-}
-
-fn step_operator(token: &Token) -> StepOperator
-    ensures { result ≡ b.step_for (symbol_of token.now) }
-{
-    match classify(token) {
-        Symbol::PlusPlus => StepOperator::Increment,
-        _ => StepOperator::Decrement,
-    }
 }
 
 /// An operator after its operand as a suffix.
