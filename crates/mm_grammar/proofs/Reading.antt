@@ -335,7 +335,7 @@ module _ (L : Language) (C : Claims L) (fit : Fit L C) where
   pub kept_fail : {A : Type 0} → (p : PartOf L A) (ts r : List L.Token) → Fails L p ts r → Fails L (kept p) ts r
   kept_fail p ts r a = record { used = a.used; cut = a.cut; front = a.front; not_spelled = λ v s. a.not_spelled v.1 s.1; stuck = a.stuck }
 
-  unfold_front : (x : L.Name) (ts : List L.Token) → RuleFront L x ts → Front L (L.rule x) ts
+  pub unfold_front : (x : L.Name) (ts : List L.Token) → RuleFront L x ts → Front L (L.rule x) ts
   unfold_front x ts h = go h.0 h.1
     where
       go : (n : ℕ) → front_at L n x ts → Front L (L.rule x) ts

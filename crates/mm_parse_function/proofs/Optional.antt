@@ -8,6 +8,7 @@ use Rattle.mm_grammar.proofs.Lists.{not_both}
 use Rattle.mm_grammar.proofs.Deep.{front_along}
 use Rattle.mm_grammar.proofs.Laws.{front_nil, front_first, spell_empty, spell_front}
 use Rattle.mm_grammar.proofs.Closed.{lawful, fold_spells, unfold_spells, fold_front}
+use Rattle.mm_grammar.proofs.Reading.{unfold_front}
 use Rattle.mm_grammar.proofs.Loops.{opt_fail}
 use Rattle.mm_grammar.proofs.Here.{opt_none_of, opt_then_fail}
 use Rattle.mm_token.specs.declared.token.Token.{Token}
@@ -87,13 +88,6 @@ fails_behind p h g ts r l a = opt_fail units ahead fit p (good (opt p) g) ts r (
 
 -- ---- parameters that may be left out, and `)`
 
-unfold_front : (x : Rule) (ts : List Token) → RuleFront units x ts → Front units (rule_of x) ts
-unfold_front x ts h = go h.0 h.1
-  where
-    go : (n : ℕ) → front_at units n x ts → Front units (rule_of x) ts
-    go zero e = subst (λ w. Front units (rule_of x) w) (sym e) (front_nil units ahead (RuleSpells units) (RuleFront units) (lawful units ahead fit) (rule_of x))
-    go (suc n) f = front_along units _ _ (λ y us w i. (n, i)) _ _ (λ y us i. (n, i)) (rule_of x) ts f
-
 pub inside_fails : (ts us r : List Token) → Eats (k.Close ∷ []) ts None us → Fails units some_params us r → Fails units inside_parameters ts r
 inside_fails ts us r h a =
     let f = opt_then_fail units ahead fit some_params (token (k.Close ∷ [])) (good (seq (opt some_params) (token (k.Close ∷ []))) refl) (good (token (k.Close ∷ [])) refl) refl ts r h.1 (subst (λ w. Fails units some_params w r) h.0 a) in
@@ -106,7 +100,7 @@ inside_fails ts us r h a =
       ];
       not_spelled = λ v s. (let s1 = s.2 in let w = unfold_spells units params s1.0 s.0.0 s1.3 in f.not_spelled (w.0, s.0.1) (s1.0, s1.1, s1.2, w.2, s1.4));
       stuck = λ x s tail e g. f.stuck x s tail e (elim g [
-        | inl i ↦ inl (unfold_front params (f.used ++ x ∷ tail) i)
+        | inl i ↦ inl (unfold_front units ahead fit params (f.used ++ x ∷ tail) i)
         | inr i ↦ (let w = unfold_spells units params i.0 i.2 i.4 in inr (i.0, i.1, w.0, i.3, w.2, i.5))
       ]);
     }
