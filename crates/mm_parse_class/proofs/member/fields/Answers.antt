@@ -1,0 +1,51 @@
+use Rattle.std.proofs.Common.{[], ◌∷◌, ◌++◌, ◌≤◌, ◌<◌, length, ap, arith, refl, sym, ◌∙◌, subst, Some, None, true, false}
+use Rattle.mm_grammar.specs.Grammar.{name, seq, alt, many, give, opt, Reads, Fails}
+use Rattle.mm_syntax.specs.declared.symbol.Symbol.TheVariants as k
+use Rattle.mm_syntax.specs.Built as b
+use Rattle.mm_syntax.specs.BuiltDeclarations as bd
+use Rattle.mm_syntax.specs.Rules.{units, token, rule_of, block, item, type_name, void_type, number_type, mark, parameters, accesses, constructor_body, base, bases, items, class_body, class_head, method_body, method_end, next_field, member_end, member_tail, method_tail, destructor, after_virtual, constructor_tail, after_member_class}
+use Rattle.mm_cursor.proofs.Steps.{err, err_take, tail, eats_some, eats_none, taken_shorter, first_fails, after, after_fails, gives, gives_not}
+use Rattle.mm_parse_class.specs.Parts.{class_keys, class_declaration, semicolon_if, base_of, virtual_base, access_base, base_list, method_rest, inner_constructor, constructor_rest, after_destructor, destructor_from, destructor_of, function_end, field, fields, access_item, virtual_item, destructor_item, class_item, typed_item, members}
+use Rattle.mm_parse_class.proofs.Turns as turn
+use Rattle.mm_parse_class.proofs.Exits as exit
+use Rattle.mm_parse_class.proofs.member.fields.Goals as goal
+
+pub loop-alloc-init : goal.loop-alloc-init
+loop-alloc-init c =
+    record { so_far = exit.fields_start _ _ c.new.ensures; shorter = search rules }
+
+pub returns-in_err-next-clause-reads : goal.returns-in_err-next-clause-reads
+returns-in_err-next-clause-reads c =
+    let x = eats_some (k.Comma ∷ []) _ _ _ c.loop-alloc-test.ensures c.eat.ensures in
+    err field fields _ _ _ _ _ c.from_residual.ensures.1 c.in_err-next.ensures.reads λ f. exit.fields_fail _ _ _ _ _ _ c.loop-alloc.invariant.so_far x.1 c.in_err-next.ensures.shorter f
+
+pub loop-alloc-preserved : goal.loop-alloc-preserved
+loop-alloc-preserved c =
+    let x = eats_some (k.Comma ∷ []) _ _ _ c.loop-alloc-test.ensures c.eat.ensures in
+    let l = ap length x.1.0 in
+    record { so_far = exit.fields_step _ _ _ _ _ _ _ _ c.loop-alloc.invariant.so_far x.1 c.in_ok-next.ensures.reads c.in_ok-push_field.ensures; shorter = omega (arith, l, c.in_ok-next.ensures.shorter, c.loop-alloc.invariant.shorter) }
+
+pub returns-in_err-take-clause-reads : goal.returns-in_err-take-clause-reads
+returns-in_err-take-clause-reads c =
+    err_take (k.Semicolon ∷ []) fields _ _ _ _ _ c.from_residual-in_err-take.ensures.1 c.in_err-take.ensures.reads λ f. exit.fields_unclosed _ _ _ _ _ c.loop-alloc.invariant.so_far (eats_none (k.Comma ∷ []) _ _ _ c.loop-alloc-test.ensures c.eat.ensures) f
+
+pub returns-clause-reads : goal.returns-clause-reads
+returns-clause-reads c =
+    exit.fields_end _ _ _ _ _ _ c.loop-alloc.invariant.so_far (eats_none (k.Comma ∷ []) _ _ _ c.loop-alloc-test.ensures c.eat.ensures) c.in_ok-take.ensures.reads
+
+pub returns-in_err-next-clause-shorter : goal.returns-in_err-next-clause-shorter
+returns-in_err-next-clause-shorter c =
+    let x = eats_some (k.Comma ∷ []) _ _ _ c.loop-alloc-test.ensures c.eat.ensures in
+    let n = taken_shorter (k.Comma ∷ []) _ _ _ _ x.1 c.in_err-next.ensures.shorter in
+    omega (arith, n, c.loop-alloc.invariant.shorter)
+
+pub loop-alloc-smaller : goal.loop-alloc-smaller
+loop-alloc-smaller c =
+    let x = eats_some (k.Comma ∷ []) _ _ _ c.loop-alloc-test.ensures c.eat.ensures in
+    taken_shorter (k.Comma ∷ []) _ _ _ _ x.1 c.in_ok-next.ensures.shorter
+
+pub returns-in_err-push_field-clause-shorter : goal.returns-in_err-push_field-clause-shorter
+returns-in_err-push_field-clause-shorter c =
+    let x = eats_some (k.Comma ∷ []) _ _ _ c.loop-alloc-test.ensures c.eat.ensures in
+    let n = taken_shorter (k.Comma ∷ []) _ _ _ _ x.1 c.in_ok-next.ensures.shorter in
+    omega (arith, n, c.loop-alloc.invariant.shorter)
