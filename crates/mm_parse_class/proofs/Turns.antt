@@ -2,7 +2,7 @@
 use Rattle.std.proofs.Common.{◌≡◌, ◌<◌, ◌≤◌, ◌+◌, ◌⊎◌, Bool, true, false, IsTrue, List, [], ◌∷◌, ◌++◌, inl, inr, map, length, refl, ap, sym, ◌∙◌, subst, arith, Option, Some, None, not}
 use Rattle.std.proofs.lemmas.List.{length-append}
 use Rattle.std.specs.Borrow.{Bor}
-use Rattle.std.specs.Option.{is_some, is_none}
+use Rattle.std.specs.Option.{is_some}
 use Rattle.mm_grammar.specs.Grammar.{seq, alt, many, give, opt, nothing, kept, RuleSpells, RuleFront, Front, Spells, Begins, Avoids, Reads, Fails}
 use Rattle.mm_grammar.specs.Ahead.{first_of, empty_of, Good}
 use Rattle.mm_grammar.proofs.Lists.{not_both}
@@ -73,14 +73,9 @@ pub token_eaten : {B : Type 0} → (symbols : List Symbol) (v : B) → IsTrue (i
 token_eaten symbols v g ts r (Some x) h = token_some symbols (λ w. v) g ts r x.now v h refl
 token_eaten symbols v g ts r None h = token_none symbols (λ w. v) g ts r v h refl
 
--- by the test that it wasn't there
-pub eats_is_none : (symbols : List Symbol) (ts r : List Token) (o : Option (Bor Token)) → true ≡ is_none o → Eats symbols ts o r → Eats symbols ts None r
-eats_is_none symbols ts r (Some x) e h = absurd (cc)
-eats_is_none symbols ts r None e h = h
-
-pub eats_is_some : (symbols : List Symbol) (ts r : List Token) (o : Option (Bor Token)) → false ≡ is_none o → Eats symbols ts o r → (x : Token) × Took symbols ts x r
-eats_is_some symbols ts r (Some x) e h = (x.now, h)
-eats_is_some symbols ts r None e h = absurd (cc)
+pub eats_shorter : (symbols : List Symbol) (ts r : List Token) (o : Option (Bor Token)) → Eats symbols ts o r → length r ≤ length ts
+eats_shorter symbols ts r (Some x) h = let e : length ts ≡ length (x.now ∷ r) = ap length h.0 in omega arith
+eats_shorter symbols ts r None h = let e : length r ≡ length ts = ap length h.0 in omega arith
 
 -- ---- one of two, by the token that stands next
 
@@ -88,11 +83,11 @@ pub foreseen : (symbols : List Symbol) (ts us r : List Token) (o : Option (Bor T
 foreseen symbols ts us r (Some x) v e i h = subst (λ w. Foresees symbols us w) (sym i) (x.now, r, sym e ∙ h.0, h.1)
 foreseen symbols ts us r None v e i h = subst (λ w. Foresees symbols us w) (sym i) (subst (λ w. Avoids units (map number_of symbols) w) e h.1)
 
-pub is_next : (symbols : List Symbol) (ts : List Token) (v : Bool) → true ≡ v → Foresees symbols ts v → Begins units (map number_of symbols) ts
-is_next symbols ts v e h = subst (λ w. Foresees symbols ts w) (sym e) h
+pub is_next : (symbols : List Symbol) (ts : List Token) (v : Bool) → v ≡ true → Foresees symbols ts v → Begins units (map number_of symbols) ts
+is_next symbols ts v e h = subst (λ w. Foresees symbols ts w) e h
 
-pub is_not_next : (symbols : List Symbol) (ts : List Token) (v : Bool) → false ≡ v → Foresees symbols ts v → Avoids units (map number_of symbols) ts
-is_not_next symbols ts v e h = subst (λ w. Foresees symbols ts w) (sym e) h
+pub is_not_next : (symbols : List Symbol) (ts : List Token) (v : Bool) → v ≡ false → Foresees symbols ts v → Avoids units (map number_of symbols) ts
+is_not_next symbols ts v e h = subst (λ w. Foresees symbols ts w) e h
 
 pub next_reads : {A : Type 0} → (p q : P A) (symbols : List Symbol) → IsTrue (is_plain (alt p q)) → first_of units ahead p ≡ map number_of symbols → (ts r : List Token) (v : A) → Begins units (map number_of symbols) ts → Reads units p ts v r → Reads units (alt p q) ts v r
 next_reads p q symbols g f ts r v h a = alt_first_ok units ahead fit p q (good (alt p q) g) ts r v (subst (λ cs. Begins units cs ts) (sym f) h) a
@@ -121,13 +116,16 @@ pub fails_or_none : {A : Type 0} → (p : P A) → (ts r : List Token) → Fails
 fails_or_none p ts r a = go a.used a.cut refl
   where
     go : (u : List Token) → ts ≡ u ++ r → a.used ≡ u → (length r < length ts) ⊎ ((r ≡ ts) × Reads units (opt p) ts None ts)
-    go [] cut same = inr (sym cut, record {
-      used = [];
-      cut = refl;
-      spelled = inr (tt, refl, refl);
-      stuck = λ k s tail e f. elim f [
-        | inl i ↦ a.stuck k s tail (sym cut ∙ e) (subst (λ w. Front units p w) (ap (λ w. w ++ k ∷ tail) (sym same)) i)
-        | inr i ↦ absurd (cc)
-      ];
-    })
+    go [] cut same = inr (
+      sym cut,
+      record {
+        used = [];
+        cut = refl;
+        spelled = inr (tt, refl, refl);
+        stuck = λ k s tail e f. elim f [
+          | inl i ↦ a.stuck k s tail (sym cut ∙ e) (subst (λ w. Front units p w) (ap (λ w. w ++ k ∷ tail) (sym same)) i)
+          | inr i ↦ absurd (cc)
+        ];
+      },
+    )
     go (x ∷ u) cut same = let e : length ts ≡ length (x ∷ u) + length r = ap length cut ∙ length-append (x ∷ u) r in inl (omega arith)

@@ -5,8 +5,7 @@ ghost use Rattle.mm_cursor.specs.Cursor.{Answers};
 ghost use Rattle.mm_syntax.specs.Rules as rules;
 ghost use Rattle.mm_parse_class.specs.Parts.{base_list, virtual_base, access_base};
 
-use crate::ahead;
-use crate::build;
+use crate::{ahead, build};
 use mm_cursor::{Cursor, Stop};
 use mm_syntax::decl::Base;
 use mm_syntax::symbol::Symbol;
@@ -47,12 +46,7 @@ fn access_base(alloc: Global, cursor: &mut Cursor<'_>) -> Result<Boxed<Base>, St
     let word = cursor.take(&[Symbol::Public, Symbol::Protected, Symbol::Private])?;
     let virtual_at = ahead::virtual_word(cursor);
     let class = cursor.take(&[Symbol::Class])?;
-    Ok(build::base(
-        alloc,
-        virtual_at,
-        Some(taken::access_word(word)),
-        class,
-    )?)
+    Ok(build::base(alloc, virtual_at, Some(taken::access_word(word)), class)?)
 }
 
 /// Bases with a comma between each two.

@@ -297,10 +297,7 @@ pub fn virtual_member(
 }
 
 /// A destructor without `virtual`.
-pub fn destructor(
-    alloc: Global,
-    tail: Boxed<DestructorTail>,
-) -> Result<Boxed<Member>, AllocError>
+pub fn destructor(alloc: Global, tail: Boxed<DestructorTail>) -> Result<Boxed<Member>, AllocError>
     ensures { IfOk result (λ v. v ≡ bd.destructor tail) }
 {
     let DestructorTail {

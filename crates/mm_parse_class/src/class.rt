@@ -7,9 +7,7 @@ ghost use Rattle.mm_syntax.specs.Rules as rules;
 ghost use Rattle.mm_syntax.specs.Symbols.{symbol_of, number_of};
 ghost use Rattle.mm_parse_class.specs.Parts.{class_keys, class_declaration};
 
-use crate::base;
-use crate::build;
-use crate::item;
+use crate::{base, build, item};
 use mm_cursor::{Cursor, Stop};
 use mm_syntax::decl::Decl;
 use mm_syntax::part::ClassBody;

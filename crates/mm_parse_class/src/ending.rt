@@ -7,11 +7,9 @@ ghost use Rattle.mm_syntax.specs.Built as b;
 ghost use Rattle.mm_syntax.specs.Rules as rules;
 ghost use Rattle.mm_parse_class.specs.Parts.{method_rest, inner_constructor, constructor_rest, after_destructor, destructor_from};
 
-use crate::ahead;
-use crate::build;
+use crate::{ahead, build};
 use mm_cursor::{Cursor, Stop};
-use mm_parse_function::constructor;
-use mm_parse_function::params;
+use mm_parse_function::{constructor, params};
 use mm_parse_stmt::stmt;
 use mm_syntax::decl::ConstructorBody;
 use mm_syntax::part::{ConstructorTail, DestructorTail};

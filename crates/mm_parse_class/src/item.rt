@@ -7,9 +7,7 @@ ghost use Rattle.mm_syntax.specs.BuiltDeclarations as bd;
 ghost use Rattle.mm_syntax.specs.Rules as rules;
 ghost use Rattle.mm_parse_class.specs.Parts.{access_item, virtual_item, destructor_item, class_item, typed_item, members};
 
-use crate::build;
-use crate::ending;
-use crate::member;
+use crate::{build, ending, member};
 use mm_cursor::{Cursor, Stop};
 use mm_parse_var::types;
 use mm_syntax::decl::Member;
@@ -69,11 +67,7 @@ fn class_item(
 }
 
 /// A member that begins with a type that is no class.
-fn typed_item(
-    alloc: Global,
-    cursor: &mut Cursor<'_>,
-    nesting: usize,
-) -> Result<Boxed<Member>, Stop>
+fn typed_item(alloc: Global, cursor: &mut Cursor<'_>, nesting: usize) -> Result<Boxed<Member>, Stop>
     ensures reads { Answers (typed_item nesting) cursor.old result cursor.new }
     ensures shorter { length cursor.new ≤ length cursor.old }
 {

@@ -5,9 +5,7 @@ ghost use Rattle.mm_cursor.specs.Cursor.{Answers};
 ghost use Rattle.mm_syntax.specs.Rules as rules;
 ghost use Rattle.mm_parse_class.specs.Parts.{field, fields, function_end};
 
-use crate::ahead;
-use crate::build;
-use crate::ending;
+use crate::{ahead, build, ending};
 use mm_cursor::{Cursor, Stop};
 use mm_parse_function::params;
 use mm_parse_var::types;

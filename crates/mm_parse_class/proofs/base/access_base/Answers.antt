@@ -17,4 +17,4 @@ returns-in_err-class-clause-reads c =
 
 pub returns-clause-reads : goal.returns-clause-reads
 returns-clause-reads c =
-    access_base_reads _ _ _ _ _ _ _ _ c.in_ok-word.ensures.reads c.virtual_word-virtual_at.ensures.reads c.in_ok-class.ensures.reads (c.in_ok-base.ensures ∙ ap (λ w. base_of _ (Some w) _) c.access_word.ensures)
+    access_base_reads _ _ _ _ _ _ _ _ c.in_ok-word.ensures.reads c.virtual_word-virtual_at.ensures.reads c.in_ok-class.ensures.reads (c.in_ok-base.ensures ∙ ap (λ w. base_of c.virtual_word-virtual_at.result (Some w) c.in_ok-class.class.now) c.access_word.ensures)

@@ -1,4 +1,4 @@
-use Rattle.std.proofs.Common.{[], ◌∷◌, ◌++◌, ◌≤◌, ◌<◌, length, ap, arith, refl, sym, ◌∙◌, subst, Some, None, true, false}
+use Rattle.std.proofs.Common.{[], ◌∷◌, ◌++◌, ◌≤◌, ◌<◌, length, take, ◌-◌, ap, arith, refl, sym, ◌∙◌, subst, Some, None, true, false}
 use Rattle.mm_grammar.specs.Grammar.{name, seq, alt, many, give, opt, Reads, Fails}
 use Rattle.mm_syntax.specs.declared.symbol.Symbol.TheVariants as k
 use Rattle.mm_syntax.specs.Built as b
@@ -24,4 +24,4 @@ returns-in_err-take-clause-reads c =
 
 pub returns-clause-reads : goal.returns-clause-reads
 returns-clause-reads c =
-    exit.class_reads c.args.nesting _ _ _ _ _ c.args.word.now _ _ _ _ (c.requires.first, c.requires.key) c.in_ok-name.ensures.reads c.in_ok-body.ensures.reads c.in_ok-take.ensures.reads c.in_ok-class_decl.ensures
+    exit.class_reads c.args.nesting _ _ _ _ _ c.args.word.now _ _ _ _ (c.requires.first, c.requires.key) c.in_ok-name.ensures.reads c.in_ok-body.ensures.reads c.in_ok-take.ensures.reads (c.in_ok-class_decl.ensures ∙ ap (λ w. bd.class_decl (take (length c.args.start.now - length w) c.args.start.now) c.args.word.now c.in_ok-name.name.now c.in_ok-body.body) c.rest.ensures)

@@ -1,4 +1,4 @@
-use Rattle.std.proofs.Common.{[], ◌∷◌, ◌++◌, ◌≤◌, ◌<◌, length, ap, arith, refl, sym, ◌∙◌, subst, Some, None, true, false}
+use Rattle.std.proofs.Common.{[], ◌∷◌, ◌++◌, ◌≤◌, ◌<◌, length, take, ◌-◌, ap, arith, refl, sym, ◌∙◌, subst, Some, None, true, false}
 use Rattle.mm_grammar.specs.Grammar.{name, seq, alt, many, give, opt, Reads, Fails}
 use Rattle.mm_syntax.specs.declared.symbol.Symbol.TheVariants as k
 use Rattle.mm_syntax.specs.Built as b
@@ -29,3 +29,8 @@ returns-in_err-take-4-clause-reads c =
 pub returns-clause-reads : goal.returns-clause-reads
 returns-clause-reads c =
     exit.destructor_ends _ _ _ _ _ _ _ _ _ _ _ _ c.in_ok-take.ensures.reads (turn.token_given (k.Void ∷ []) refl _ _ _ _ c.is_some-has_void.ensures c.eat.ensures) c.in_ok-take-2.ensures.reads c.in_ok-take-3.ensures.reads c.in_ok-take-4.ensures.reads c.semicolon.ensures.reads
+
+pub returns-clause-shorter : goal.returns-clause-shorter
+returns-clause-shorter c =
+    let n = turn.eats_shorter (k.Void ∷ []) _ _ _ c.eat.ensures in
+    omega (arith, n, c.in_ok-take.ensures.shorter, c.in_ok-take-2.ensures.shorter, c.in_ok-take-3.ensures.shorter, c.in_ok-take-4.ensures.shorter, c.semicolon.ensures.shorter)

@@ -1,4 +1,4 @@
-use Rattle.std.proofs.Common.{[], ◌∷◌, ◌++◌, ◌≤◌, ◌<◌, length, ap, arith, refl, sym, ◌∙◌, subst, Some, None, true, false}
+use Rattle.std.proofs.Common.{[], ◌∷◌, ◌++◌, ◌≤◌, ◌<◌, length, take, ◌-◌, ap, arith, refl, sym, ◌∙◌, subst, Some, None, true, false}
 use Rattle.mm_grammar.specs.Grammar.{name, seq, alt, many, give, opt, Reads, Fails}
 use Rattle.mm_syntax.specs.declared.symbol.Symbol.TheVariants as k
 use Rattle.mm_syntax.specs.Built as b

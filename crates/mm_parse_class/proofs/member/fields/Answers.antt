@@ -1,4 +1,4 @@
-use Rattle.std.proofs.Common.{[], ◌∷◌, ◌++◌, ◌≤◌, ◌<◌, length, ap, arith, refl, sym, ◌∙◌, subst, Some, None, true, false}
+use Rattle.std.proofs.Common.{[], ◌∷◌, ◌++◌, ◌≤◌, ◌<◌, length, take, ◌-◌, ap, arith, refl, sym, ◌∙◌, subst, Some, None, true, false}
 use Rattle.mm_grammar.specs.Grammar.{name, seq, alt, many, give, opt, Reads, Fails}
 use Rattle.mm_syntax.specs.declared.symbol.Symbol.TheVariants as k
 use Rattle.mm_syntax.specs.Built as b
@@ -12,7 +12,7 @@ use Rattle.mm_parse_class.proofs.member.fields.Goals as goal
 
 pub loop-alloc-init : goal.loop-alloc-init
 loop-alloc-init c =
-    record { so_far = exit.fields_start _ _ c.new.ensures; shorter = search rules }
+    record { so_far = exit.fields_start _ _ c.new-list.ensures; shorter = omega arith }
 
 pub returns-in_err-next-clause-reads : goal.returns-in_err-next-clause-reads
 returns-in_err-next-clause-reads c =
