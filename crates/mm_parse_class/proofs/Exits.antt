@@ -1,5 +1,5 @@
 -- The exits of the readers of classes that choose or repeat, over plain lists of tokens.
-use Rattle.std.proofs.Common.{◌≡◌, ℕ, ◌<◌, ◌≤◌, ◌+◌, ◌-◌, Bool, true, false, IsTrue, List, [], ◌∷◌, ◌++◌, inl, inr, map, length, take, refl, ap, sym, ◌∙◌, subst, arith, Option, Some, None, append_assoc}
+use Rattle.std.proofs.Common.{◌≡◌, ℕ, ◌<◌, ◌≤◌, ◌+◌, ◌-◌, Bool, IsTrue, List, [], ◌∷◌, ◌++◌, inl, inr, map, length, take, refl, ap, sym, ◌∙◌, subst, arith, Option, Some, None, append_assoc}
 use Rattle.std.proofs.lemmas.List.{append-nil, length-append}
 use Rattle.std.proofs.Math.Seq.{take-append_seam}
 use Rattle.mm_grammar.specs.Grammar.{name, seq, alt, many, give, opt, kept, Begins, Avoids, Reads, Fails}
@@ -32,10 +32,10 @@ use Rattle.mm_syntax.specs.declared.part.MemberEnd.{MemberEnd}
 use Rattle.mm_syntax.specs.declared.part.MemberEnd.TheVariants as member_is
 use Rattle.mm_syntax.specs.declared.part.MemberTail.{MemberTail}
 use Rattle.mm_syntax.specs.declared.part.MethodTail.{MethodTail}
-use Rattle.mm_syntax.specs.Symbols.{symbol_of, number_of}
+use Rattle.mm_syntax.specs.Symbols.{number_of}
 use Rattle.mm_syntax.specs.Built as b
 use Rattle.mm_syntax.specs.BuiltDeclarations as bd
-use Rattle.mm_syntax.specs.Rules.{P, units, token, rule_of, block, item, type_name, void_type, number_type, mark, parameters, accesses, base, bases, items, class_body, class_head, method_body, method_end, next_field, member_end, member_tail, method_tail, destructor, after_virtual, constructor_tail, after_member_class, ◌▸◌, ◌◂◌}
+use Rattle.mm_syntax.specs.Rules.{P, units, token, item, type_name, mark, parameters, accesses, base, bases, items, class_body, class_head, method_end, next_field, member_end, member_tail, method_tail, destructor, after_virtual, constructor_tail, after_member_class, ◌▸◌, ◌◂◌}
 use Rattle.mm_syntax.proofs.Claims.{ahead}
 use Rattle.mm_syntax.proofs.Fitting.{fit}
 use Rattle.mm_cursor.specs.Cursor.{Eats}

@@ -3,10 +3,10 @@ use Rattle.std.proofs.Common.{◌≡◌, ◌<◌, ◌≤◌, ◌+◌, ◌⊎◌,
 use Rattle.std.proofs.lemmas.List.{length-append}
 use Rattle.std.specs.Borrow.{Bor}
 use Rattle.std.specs.Option.{is_some}
-use Rattle.mm_grammar.specs.Grammar.{seq, alt, many, give, opt, nothing, kept, RuleSpells, RuleFront, Front, Spells, Begins, Avoids, Reads, Fails}
-use Rattle.mm_grammar.specs.Ahead.{first_of, empty_of, Good}
+use Rattle.mm_grammar.specs.Grammar.{seq, alt, give, opt, RuleSpells, RuleFront, Front, Spells, Begins, Avoids, Reads, Fails}
+use Rattle.mm_grammar.specs.Ahead.{first_of, empty_of}
 use Rattle.mm_grammar.proofs.Lists.{not_both}
-use Rattle.mm_grammar.proofs.Laws.{spell_empty, front_nil}
+use Rattle.mm_grammar.proofs.Laws.{spell_empty}
 use Rattle.mm_grammar.proofs.Closed.{lawful}
 use Rattle.mm_grammar.proofs.Reading.{alt_first_ok, alt_first_fail, alt_second_ok, alt_second_fail}
 use Rattle.mm_token.specs.declared.token.Token.{Token}

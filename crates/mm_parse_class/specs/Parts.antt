@@ -1,6 +1,6 @@
 -- The parts of the grammar of classes that functions of their own read. ISO/IEC 14882:1998, 9 and 10.
 use Rattle.std.specs.Prelude.{ℕ, Bool, true, false, List, [], ◌∷◌, map, Option, Some, None}
-use Rattle.mm_grammar.specs.Grammar.{name, seq, alt, many, give, opt, kept, has, Begins, Avoids}
+use Rattle.mm_grammar.specs.Grammar.{name, seq, alt, many, give, opt, kept, Begins, Avoids}
 use Rattle.mm_base.specs.declared.place.Place.{Place}
 use Rattle.mm_token.specs.declared.token.Token.{Token}
 use Rattle.mm_syntax.specs.declared.symbol.Symbol.{Symbol}

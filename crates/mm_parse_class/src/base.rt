@@ -55,10 +55,10 @@ pub fn base_list(alloc: Global, cursor: &mut Cursor<'_>) -> Result<Items<Base>, 
     ensures shorter { length cursor.new ≤ length cursor.old }
 {
     let first = base(alloc, cursor)?;
-    let mut list = build::single(alloc, first)?;
+    let mut list = build::single_base(alloc, first)?;
     while cursor.eat(&[Symbol::Comma]).is_some() {
         let next = base(alloc, cursor)?;
-        build::push(&mut list, next)?;
+        build::push_base(&mut list, next)?;
     }
     Ok(list)
 }

@@ -48,7 +48,7 @@ pub fn base(
 }
 
 /// A list of one base.
-pub fn single(alloc: Global, item: Boxed<Base>) -> Result<Items<Base>, AllocError>
+pub fn single_base(alloc: Global, item: Boxed<Base>) -> Result<Items<Base>, AllocError>
     ensures { IfOk result (λ v. v ≡ item ∷ []) }
 {
     let mut list = Items::new(alloc);
@@ -57,7 +57,7 @@ pub fn single(alloc: Global, item: Boxed<Base>) -> Result<Items<Base>, AllocErro
 }
 
 /// Adds a base to a list.
-pub fn push(list: &mut Items<Base>, item: Boxed<Base>) -> Result<(), AllocError>
+pub fn push_base(list: &mut Items<Base>, item: Boxed<Base>) -> Result<(), AllocError>
     ensures { OnOk result (list.new ≡ list.old ++ item ∷ []) }
 {
     list.push(item.into_inner())?;

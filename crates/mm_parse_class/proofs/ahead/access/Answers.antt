@@ -1,5 +1,4 @@
-use Rattle.std.proofs.Common.{[], ◌∷◌, refl, ap, Some}
-use Rattle.mm_syntax.specs.declared.symbol.Symbol.TheVariants as k
+use Rattle.std.proofs.Common.{refl, ap, Some}
 use Rattle.mm_syntax.specs.BuiltDeclarations as bd
 use Rattle.mm_syntax.specs.Rules.{accesses}
 use Rattle.mm_parse_class.proofs.Turns.{token_some, token_none}

@@ -1,7 +1,6 @@
-use Rattle.std.proofs.Common.{[], ◌∷◌, refl, ap, Some}
+use Rattle.std.proofs.Common.{[], ◌∷◌, refl}
 use Rattle.mm_syntax.specs.declared.symbol.Symbol.TheVariants as k
 use Rattle.mm_syntax.specs.BuiltDeclarations as bd
-use Rattle.mm_syntax.specs.Rules.{accesses}
 use Rattle.mm_parse_class.proofs.Turns.{token_some, token_none}
 use Rattle.mm_parse_class.proofs.ahead.virtual_word.Goals as goal
 

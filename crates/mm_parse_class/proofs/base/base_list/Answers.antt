@@ -23,7 +23,7 @@ pub loop-alloc-preserved : goal.loop-alloc-preserved
 loop-alloc-preserved c =
     let x = eats_some (k.Comma ∷ []) _ _ _ c.loop-alloc-test.ensures c.eat.ensures in
     let l = ap length x.1.0 in
-    record { so_far = bases_step _ _ _ _ _ _ _ _ c.loop-alloc.invariant.so_far x.1 c.in_ok-next.ensures.reads c.in_ok-push.ensures; shorter = omega (arith, l, c.in_ok-next.ensures.shorter, c.loop-alloc.invariant.shorter) }
+    record { so_far = bases_step _ _ _ _ _ _ _ _ c.loop-alloc.invariant.so_far x.1 c.in_ok-next.ensures.reads c.in_ok-push_base.ensures; shorter = omega (arith, l, c.in_ok-next.ensures.shorter, c.loop-alloc.invariant.shorter) }
 
 pub returns-clause-reads : goal.returns-clause-reads
 returns-clause-reads c =
@@ -40,8 +40,8 @@ loop-alloc-smaller c =
     let x = eats_some (k.Comma ∷ []) _ _ _ c.loop-alloc-test.ensures c.eat.ensures in
     taken_shorter (k.Comma ∷ []) _ _ _ _ x.1 c.in_ok-next.ensures.shorter
 
-pub returns-in_err-push-clause-shorter : goal.returns-in_err-push-clause-shorter
-returns-in_err-push-clause-shorter c =
+pub returns-in_err-push_base-clause-shorter : goal.returns-in_err-push_base-clause-shorter
+returns-in_err-push_base-clause-shorter c =
     let x = eats_some (k.Comma ∷ []) _ _ _ c.loop-alloc-test.ensures c.eat.ensures in
     let n = taken_shorter (k.Comma ∷ []) _ _ _ _ x.1 c.in_ok-next.ensures.shorter in
     omega (arith, n, c.loop-alloc.invariant.shorter)
