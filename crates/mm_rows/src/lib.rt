@@ -6,4 +6,6 @@ mod adapters;
 #[cfg(test)]
 mod expressions;
 #[cfg(test)]
+mod front;
+#[cfg(test)]
 mod tests;
