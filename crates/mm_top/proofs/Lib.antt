@@ -1,9 +1,10 @@
-pub mod Numbers
-pub mod Scanning
-pub mod ParsingLaws
 pub mod Asked
 pub mod Codes
+pub mod Units
+pub mod Mains
+pub mod FirstInts
 pub mod Small
 pub mod LinkLaws
+pub mod Told
 pub mod AnswersLaws
 pub mod Rows
