@@ -13,7 +13,7 @@ use Rattle.mm_check_unit.specs.First.{fn_meant, decl_meant, decls_meant, stateme
 use Rattle.mm_check_unit.specs.Laws.{IsMainFn, IsMainDecl, HasMain, DefinesMain}
 
 tested : (b : Bool) (o : Option (List Stmt)) (ss : List Stmt) → cond b o None ≡ Some ss → IsTrue b
-tested true o ss e = tt
+tested true o ss e = refl
 tested false o ss e = absurd (let x : ⊥ = cc in x)
 
 main_fn : (k : FnDeclKind) (ss : List Stmt) → fn_meant k ≡ Some ss → IsMainFn k

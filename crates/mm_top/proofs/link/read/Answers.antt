@@ -1,21 +1,19 @@
-use Rattle.std.proofs.Common.{rules, ◌≡◌, ◌⊎◌, IfOk, MatchResult, ℕ, ◌+◌, ◌-◌, ◌*◌, ◌<◌, ◌≤◌, length, ◌/◌, ◌%◌, Bool, true, false, nat_eq, nat_lt, List, [], ◌∷◌, ◌++◌, slice_index_or, slice_set, bit_and, bit_or, Fits, w8, w32, w64, Bor, MutBor}
-use Rattle.mm_core.specs.Valid.{AreValidStmts}
-use Rattle.mm_token.specs.Tokens.{Reads}
-use Rattle.mm_parse_unit.specs.Units.{IsTreeOf}
-use Rattle.mm_check_unit.specs.First.{checked}
-use Rattle.mm_top.specs.Headline.{file_of, Due, IsDue, Linked}
-use Rattle.mm_top.specs.Linking.{Ends, EndsFor, EndsForTree, IsFirst, AreFirst}
-use Rattle.mm_top.specs.declared.link.Ending.TheVariants as ending
+use Rattle.mm_top.proofs.LinkLaws.{absent_end, long_end, lexical_end}
 use Rattle.mm_top.proofs.link.read.Goals as goal
 
--- src/link.rt:83:1
 pub returns-in-Err-Absent : goal.returns-in-Err-Absent
-returns-in-Err-Absent g c = ?
+returns-in-Err-Absent g c =
+    let e = c.in-Err-Absent.ensures in
+    absent_end (record { held = g.F.Files.held c.args.files.now; faults = g.F.Files.faults c.args.files.now; faults' = g.F.Files.faults c.get_tokens.new.files; drawn = g.F.Files.drawn c.args.files.now; drawn' = g.F.Files.drawn c.get_tokens.new.files })
+    c.args.name.now c.in-Err-Absent.file c.in-Err-Absent.field-0-1 (rw c.in-Err-Absent.field-0-is at e.reads) (rw c.in-Err-Absent.field-0-is at e.causes)
 
--- src/link.rt:83:1
 pub returns-in-Err-TooLong : goal.returns-in-Err-TooLong
-returns-in-Err-TooLong g c = ?
+returns-in-Err-TooLong g c =
+    let e = c.in-Err-TooLong.ensures in
+    long_end (record { held = g.F.Files.held c.args.files.now; faults = g.F.Files.faults c.args.files.now; faults' = g.F.Files.faults c.get_tokens.new.files; drawn = g.F.Files.drawn c.args.files.now; drawn' = g.F.Files.drawn c.get_tokens.new.files })
+    c.args.name.now c.in-Err-TooLong.file (rw c.in-Err-TooLong.field-0-is at e.reads) (rw c.in-Err-TooLong.field-0-is at e.causes)
 
--- src/link.rt:83:1
 pub returns-in-Err-Fault : goal.returns-in-Err-Fault
-returns-in-Err-Fault g c = ?
+returns-in-Err-Fault g c =
+    lexical_end (record { held = g.F.Files.held c.args.files.now; faults = g.F.Files.faults c.args.files.now; faults' = g.F.Files.faults c.get_tokens.new.files; drawn = g.F.Files.drawn c.args.files.now; drawn' = g.F.Files.drawn c.get_tokens.new.files })
+    c.args.name.now c.in-Err-Fault.file c.in-Err-Fault.code c.in-Err-Fault.place (rw c.in-Err-Fault.field-0-is at c.in-Err-Fault.ensures.reads)
