@@ -1,6 +1,5 @@
 pub mod Asked
 pub mod Codes
-pub mod Units
 pub mod Mains
 pub mod FirstInts
 pub mod Small

@@ -25,7 +25,7 @@ use Rattle.mm_top.specs.declared.link.Ending.{Ending}
 use Rattle.mm_top.specs.declared.link.Ending.TheVariants as ending
 use Rattle.mm_top.specs.Headline.{FilesSeen, IsSound, IsFaulty, IsAbsent, IsLong, IsDue, Due, file_of, n0, p5}
 use Rattle.mm_top.specs.Linking.{Ends, EndsFor, EndsForTree, IsFirst, AreFirst}
-use Rattle.mm_top.proofs.Units.{built_is_first}
+use Rattle.mm_check_unit.proofs.Built.{built_is_first}
 use Rattle.mm_top.proofs.Mains.{first_has_main}
 use Rattle.mm_top.proofs.Small.{valid, few_locals}
 

@@ -18,7 +18,7 @@ use Rattle.mm_check_unit.specs.declared.first.Stmt.{Stmt}
 use Rattle.mm_check_unit.specs.First.{statements_of}
 use Rattle.mm_check_unit.specs.Laws.{IsBuilt, DefinesMain}
 use Rattle.mm_top.specs.Headline.{IsRead, IsSound, Fault, IsFaulty, IsAbsent, IsLong, file_of, n0, p5}
-use Rattle.mm_top.proofs.Units.{one_unit, one_fault, not_both}
+use Rattle.mm_parse_unit.proofs.OneAnswer.{one_unit, one_fault, not_both}
 use Rattle.mm_top.proofs.Mains.{first_has_main}
 
 -- a unit that is sound, its first fault, no file, a file past the limit
