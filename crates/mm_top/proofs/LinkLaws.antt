@@ -1,5 +1,5 @@
 -- How a linking ends, and what is due.
-use Rattle.std.proofs.Common.{◌≡◌, ℕ, ◌≤◌, ◌⊎◌, ◌^◌, List, length, Option, Some, None, refl, sym, ap, ◌∙◌, subst, inl, inr, arith, ⊎_elim}
+use Rattle.std.proofs.Common.{◌≡◌, ℕ, ◌≤◌, ◌⊎◌, ◌^◌, List, Option, Some, None, refl, sym, ◌∙◌, subst, inl, inr, arith}
 use Rattle.std.specs.Prelude.{IfSome, MatchOption, ◌+◌}
 use Rattle.mm_base.specs.Outside.{Contents, Rose, RoseBy}
 use Rattle.mm_base.specs.declared.code.Code.{Code}
@@ -17,7 +17,7 @@ use Rattle.mm_token.specs.Tokens.{byte_limit, unit_start, Reads, IsRefused}
 use Rattle.mm_token.specs.Causes.{HasCause}
 use Rattle.mm_syntax.specs.declared.decl.Unit.{Unit as UnitTree}
 use Rattle.mm_syntax.specs.Forms.{all_forms, first_of, shown_unit}
-use Rattle.mm_parse_unit.specs.Units.{IsTreeOf, IsSyntaxFault}
+use Rattle.mm_parse_unit.specs.Units.{IsSyntaxFault}
 use Rattle.mm_check_unit.specs.declared.first.Stmt.{Stmt}
 use Rattle.mm_check_unit.specs.First.{checked, statements_of}
 use Rattle.mm_check_unit.specs.Laws.{IsBuilt}

@@ -1,5 +1,5 @@
 -- A first text defines `int main()`.
-use Rattle.std.proofs.Common.{◌≡◌, Bool, true, false, List, [], ◌∷◌, Option, Some, None, refl, ◌⊎◌, inl, inr, cond}
+use Rattle.std.proofs.Common.{◌≡◌, Bool, true, false, List, [], ◌∷◌, Option, Some, None, refl, inl, cond}
 use Rattle.std.specs.Prelude.{IsTrue}
 use Rattle.mm_syntax.specs.Forms.{is_main}
 use Rattle.mm_syntax.specs.declared.decl.FnDeclKind.{FnDeclKind}

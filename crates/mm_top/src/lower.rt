@@ -9,9 +9,9 @@ ghost use Rattle.mm_lower.specs.Lowered.{local, value_in, block_of, trap_code, o
 ghost use Rattle.mm_check_unit.specs.First.{sum_expr, checked_stmt, checked};
 ghost use Rattle.mm_top.specs.Lowering.{number_of};
 
-use mm_check_unit::first::{Stmt, Sum};
 use mm_base::text::Text;
 use mm_c::tree::{CAtom, CBlock, CFunction, COperator, CProgram, CRight, CStmt};
+use mm_check_unit::first::{Stmt, Sum};
 use sqlite_items::Items;
 use std::alloc::{AllocError, Global};
 

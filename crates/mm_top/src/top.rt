@@ -50,7 +50,12 @@ fn message(alloc: Global, ending: &Ending) -> Result<Vec<u8>, AllocError>
         Ending::Fault(code, place, file) => fault_line(alloc, *code, *place, file.as_str()),
         Ending::Absent(file) => joined(alloc, b"mmc: no file ", file.as_str(), b"\n"),
         Ending::ReadFailed(file) => joined(alloc, b"mmc: read failed ", file.as_str(), b"\n"),
-        Ending::TooLong(file) => joined(alloc, b"", file.as_str(), b": longer than 1048576 bytes\n"),
+        Ending::TooLong(file) => joined(
+            alloc,
+            b"",
+            file.as_str(),
+            b": longer than 1048576 bytes\n",
+        ),
         Ending::WriteFailed => Vec::from_slice(alloc, b"mmc: write failed\n"),
         Ending::NoMemory => Vec::from_slice(alloc, b"mmc: no memory\n"),
     }
