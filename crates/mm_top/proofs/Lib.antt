@@ -1,8 +1,7 @@
 pub mod Asked
 pub mod Codes
 pub mod Mains
-pub mod FirstInts
-pub mod Small
+pub mod FewLocals
 pub mod LinkLaws
 pub mod Told
 pub mod AnswersLaws

@@ -26,8 +26,9 @@ use Rattle.mm_top.specs.declared.link.Ending.TheVariants as ending
 use Rattle.mm_top.specs.Headline.{FilesSeen, IsSound, IsFaulty, IsAbsent, IsLong, IsDue, Due, file_of, n0, p5}
 use Rattle.mm_top.specs.Linking.{Ends, EndsFor, EndsForTree, IsFirst, AreFirst}
 use Rattle.mm_check_unit.proofs.Built.{built_is_first}
+use Rattle.mm_check_unit.proofs.Valid.{first_is_valid}
 use Rattle.mm_top.proofs.Mains.{first_has_main}
-use Rattle.mm_top.proofs.Small.{valid, few_locals}
+use Rattle.mm_top.proofs.FewLocals.{few_locals}
 
 -- ---- without tokens
 
@@ -86,7 +87,7 @@ pub is_first : (tree : UnitTree) (ss : List Stmt) → IsBuilt tree → statement
 is_first tree ss b s = record { built = b; main = first_has_main tree ss s; statements = s }
 
 pub first_valid : (tokens : Tokens) (ss : List Stmt) → AreFirst tokens ss → AreValidStmts (checked ss)
-first_valid tokens ss (tree, t, f) = valid tree ss f.statements
+first_valid tokens ss (tree, t, f) = first_is_valid tree ss f.statements
 
 sound : (held : Option Contents) (name : List ℕ) (tokens : Tokens) (ss : List Stmt) → Reads held name tokens → AreFirst tokens ss → IfSome held (λ h. IsSound h name ss)
 sound None name tokens ss r f = tt
