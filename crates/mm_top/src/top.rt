@@ -98,8 +98,8 @@ fn finish<E: Sink>(alloc: Global, ending: &Ending, err: &mut E) -> u8
 /// Does what the words ask, and answers the exit status.
 ///
 /// `words` are those after the program's name. The text that is asked for goes to `out`, messages to `err`; `input` is
-/// what a program that is run would read, and `link` runs none. The statuses: 0 done, 1 the file's text is refused, 2 the
-/// words are no command, 3 the file could not be read, 4 the text could not be written, 9 no memory, 13 the file is too long.
+/// what a program that is run would read, and `link` runs none. The statuses: 0 done, 1 the unit is refused, 2 the
+/// words are no command, 3 a file could not be read, 4 the text could not be written, 9 no memory, 13 a file is too long.
 pub fn mm_main<F: Files, I: Source, O: Sink, E: Sink>(
     alloc: Global,
     words: &[String],
