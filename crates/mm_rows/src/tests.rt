@@ -102,20 +102,32 @@ fn a_sum_is_put(rt: HostRuntime) -> Result<(), Fail> {
 }
 
 #[test]
-fn texts_that_are_not_built_are_refused(rt: HostRuntime) -> Result<(), Fail> {
-    let texts = [
-        "int main() { mm_put(x); return 0; }",
-        "",
-        "int main() { return 1 ++ 2; }",
-        "int main() { return 2147483648; }",
-        "int main() { return 007; }",
-        "int main() { return 1; } // no comments yet",
-        "int main() { return 1 + ; }",
+fn comments_are_passed_over(rt: HostRuntime) -> Result<(), Fail> {
+    let plain = linked(rt.alloc(), "int main() { return 1; }")?;
+    assert_eq!(rt; plain.status, 0);
+    let o = linked(rt.alloc(), "int main() { return /* one */ 1; } // done")?;
+    assert_eq!(rt; o.status, 0);
+    assert_eq!(rt; o.out.as_slice(), plain.out.as_slice());
+    Ok(())
+}
+
+#[test]
+fn the_first_fault_of_a_text_is_told(rt: HostRuntime) -> Result<(), Fail> {
+    let rows = [
+        ("int main() { mm_put(x); return 0; }", "one.cc:1:21: N0\n"),
+        ("int f() { return 0; }", "one.cc:1:1: N0\n"),
+        ("int main() { mm_put(x); return 0 }", "one.cc:1:34: Y1\n"),
+        ("int main() { return 1 ++ 2; }", "one.cc:1:26: Y1\n"),
+        ("int main() {\nreturn 1 + ; }", "one.cc:2:12: Y1\n"),
+        ("int main() { return 2147483648; }", "one.cc:1:21: L3\n"),
+        ("int main() { return 007 }", "one.cc:1:21: L1\n"),
+        ("", "one.cc:1:1: P5 main\n"),
+        ("// no main\n", "one.cc:1:1: P5 main\n"),
     ];
-    for text in texts {
+    for (text, message) in rows {
         let o = linked(rt.alloc(), text)?;
         assert_eq!(rt; o.status, 1);
-        assert_eq!(rt; o.err.as_slice(), b"one.cc:1:1: N0\n".as_slice());
+        assert_eq!(rt; o.err.as_slice(), message.as_bytes());
         assert!(rt; o.out.is_empty());
     }
     Ok(())
@@ -148,6 +160,9 @@ fn a_missing_file_and_failing_objects_are_told(rt: HostRuntime) -> Result<(), Fa
     let absent = run_command(rt.alloc(), &["link", "two.cc"], Vec::new(rt.alloc()), NONE)?;
     assert_eq!(rt; absent.status, 3);
     assert_eq!(rt; absent.err.as_slice(), b"mmc: no file two.cc\n".as_slice());
+    let absent = linked(rt.alloc(), "#include \"two.h\"\nint main() {}")?;
+    assert_eq!(rt; absent.status, 3);
+    assert_eq!(rt; absent.err.as_slice(), b"mmc: no file two.h\n".as_slice());
     let words = ["link", "one.cc"];
     let unread = Fails { read: 1, ..NONE };
     let o = run_command(rt.alloc(), &words, padded(rt.alloc(), 30)?, unread)?;

@@ -15,10 +15,10 @@ use Rattle.mm_c.specs.Tree.{Code, ◌⨾◌, just}
 use Rattle.mm_c.specs.View.{atom_view, code_view, block_view}
 use Rattle.mm_c.proofs.Views.{code_rules, ⨾-assoc, ⨾-done, code_view-push, view-If, view-Call}
 use Rattle.mm_lower.specs.Lowered.{local, value_in, block_of, sum_test, overflow_if, lowered, lowered_stmt, lowered_stmts, operator, locals_from, reach, reach_stmt, reach_stmts}
-use Rattle.mm_top.specs.declared.parse.Stmt.{Stmt}
-use Rattle.mm_top.specs.declared.parse.Stmt.TheVariants.{Put}
-use Rattle.mm_top.specs.declared.parse.Sum.{Sum}
-use Rattle.mm_top.specs.Grammar.{adds, sum_expr, checked_stmt, checked}
+use Rattle.mm_check_unit.specs.declared.first.Stmt.{Stmt}
+use Rattle.mm_check_unit.specs.declared.first.Stmt.TheVariants.{Put}
+use Rattle.mm_check_unit.specs.declared.first.Sum.{Sum}
+use Rattle.mm_check_unit.specs.First.{adds, sum_expr, checked_stmt, checked}
 
 -- one number more
 pub adds_more : (e : Expr) (ns : List ℕ) (n : ℕ) → adds e (ns ++ n ∷ []) ≡ binary Add (adds e ns) (int (pos n))

@@ -1,9 +1,8 @@
-pub mod Numbers
-pub mod Scanning
-pub mod ParsingLaws
 pub mod Asked
 pub mod Codes
-pub mod Small
+pub mod Mains
+pub mod FewLocals
 pub mod LinkLaws
+pub mod Told
 pub mod AnswersLaws
 pub mod Rows

@@ -1,41 +1,109 @@
--- What was read, and what is due for it.
-use Rattle.std.proofs.Common.{◌≡◌, ℕ, ◌≤◌, ◌^◌, List, length, Option, Some, None, sym, subst, arith}
-use Rattle.std.specs.Option.{IfSome}
-use Rattle.mm_base.specs.Outside.{Contents}
+-- How a linking ends, and what is due.
+use Rattle.std.proofs.Common.{◌≡◌, ℕ, ◌≤◌, ◌⊎◌, ◌^◌, List, Option, Some, None, refl, sym, ◌∙◌, subst, inl, inr, arith}
+use Rattle.std.specs.Prelude.{IfSome, MatchOption, ◌+◌}
+use Rattle.mm_base.specs.Outside.{Contents, Rose, RoseBy}
+use Rattle.mm_base.specs.declared.code.Code.{Code}
+use Rattle.mm_base.specs.declared.place.Place.{Place}
 use Rattle.mm_c.specs.Tree as c
 use Rattle.mm_c.specs.WellFormed.{IsWellFormed}
 use Rattle.mm_c.specs.Spelling.{SpellsProgram}
+use Rattle.mm_core.specs.Valid.{AreValidStmts}
 use Rattle.mm_lower.specs.Lowered.{lowered_program, reach_stmts}
 use Rattle.mm_lower.proofs.Fits.{well_formed}
 use Rattle.mm_lower.proofs.Programs.{translates}
-use Rattle.mm_top.specs.declared.parse.Stmt.{Stmt}
-use Rattle.mm_top.specs.Grammar.{IsUnit, checked}
-use Rattle.mm_top.specs.Headline.{most, IsSound, IsFaulty, IsDue, Due}
-use Rattle.mm_top.proofs.Small.{valid, few_locals}
+use Rattle.mm_token.specs.declared.token.Tokens.{Tokens}
+use Rattle.mm_token.specs.declared.token.TokenEnd.TheVariants.{Absent, TooLong, Fault}
+use Rattle.mm_token.specs.Tokens.{byte_limit, unit_start, Reads, IsRefused}
+use Rattle.mm_token.specs.Causes.{HasCause}
+use Rattle.mm_syntax.specs.declared.decl.Unit.{Unit as UnitTree}
+use Rattle.mm_syntax.specs.Forms.{all_forms, first_of, shown_unit}
+use Rattle.mm_parse_unit.specs.Units.{IsSyntaxFault}
+use Rattle.mm_check_unit.specs.declared.first.Stmt.{Stmt}
+use Rattle.mm_check_unit.specs.First.{checked, statements_of}
+use Rattle.mm_check_unit.specs.Laws.{IsBuilt}
+use Rattle.mm_top.specs.declared.link.Ending.{Ending}
+use Rattle.mm_top.specs.declared.link.Ending.TheVariants as ending
+use Rattle.mm_top.specs.Headline.{FilesSeen, IsSound, IsFaulty, IsAbsent, IsLong, IsDue, Due, file_of, n0, p5}
+use Rattle.mm_top.specs.Linking.{Ends, EndsFor, EndsForTree, IsFirst, AreFirst}
+use Rattle.mm_check_unit.proofs.Built.{built_is_first}
+use Rattle.mm_check_unit.proofs.Valid.{first_is_valid}
+use Rattle.mm_top.proofs.Mains.{first_has_main}
+use Rattle.mm_top.proofs.FewLocals.{few_locals}
 
--- a text that is no unit, where the files tell it
-pub faulty : (held : Option Contents) (name text bytes : List ℕ) → length bytes ≤ most → text ≡ bytes → IfSome held (λ h. h name ≡ Some bytes) → ((ss : List Stmt) → IsUnit text ss → ⊥) → IfSome held (λ h. IsFaulty h name)
-faulty None name text bytes short e told none = tt
-faulty (Some h) name text bytes short e told none =
-    record { text = bytes; held = told; short = short; none = λ ss u. none ss (subst (λ t. IsUnit t ss) (sym e) u) }
+-- ---- without tokens
 
--- a text that is a unit, where the files tell it
-sound : (held : Option Contents) (name text bytes : List ℕ) (ss : List Stmt) → length bytes ≤ most → text ≡ bytes → IfSome held (λ h. h name ≡ Some bytes) → IsUnit text ss → IfSome held (λ h. IsSound h name ss)
-sound None name text bytes ss short e told u = tt
-sound (Some h) name text bytes ss short e told u =
-    record { text = bytes; held = told; short = short; unit = subst (λ t. IsUnit t ss) e u }
+lacking : (held : Option Contents) (name file : List ℕ) (place : Place) (a b c d : ℕ) → IsRefused held name (Absent file place) → HasCause held (Absent file place) a b c d → MatchOption held (Rose a b) (λ h. IsAbsent h name file)
+lacking None name file place a b c d r why = why
+lacking (Some h) name file place a b c d r why = (place, r)
+
+pub absent_end : (f : FilesSeen) (name file : List ℕ) (place : Place) → IsRefused f.held name (Absent file place) → HasCause f.held (Absent file place) f.faults f.faults' f.drawn f.drawn' → Ends (ending.Absent file) name f
+absent_end f name file place r why = λ out same. (same, lacking f.held name file place f.faults f.faults' f.drawn f.drawn' r why)
+
+past : (held : Option Contents) (name file : List ℕ) (a b c d : ℕ) → IsRefused held name (TooLong file) → HasCause held (TooLong file) a b c d → MatchOption held (RoseBy (byte_limit + 1) c d) (λ h. IsLong h name file)
+past None name file a b c d r why = why
+past (Some h) name file a b c d r why = r
+
+pub long_end : (f : FilesSeen) (name file : List ℕ) → IsRefused f.held name (TooLong file) → HasCause f.held (TooLong file) f.faults f.faults' f.drawn f.drawn' → Ends (ending.TooLong file) name f
+long_end f name file r why = λ out same. (same, past f.held name file f.faults f.faults' f.drawn f.drawn' r why)
+
+lexical : (held : Option Contents) (name file : List ℕ) (code : Code) (place : Place) → IsRefused held name (Fault code place file) → IfSome held (λ h. IsFaulty h name (record { code = code; place = place; file = file }))
+lexical None name file code place r = tt
+lexical (Some h) name file code place r = inl r
+
+pub lexical_end : (f : FilesSeen) (name file : List ℕ) (code : Code) (place : Place) → IsRefused f.held name (Fault code place file) → Ends (ending.Fault code place file) name f
+lexical_end f name file code place r = λ out same. (same, lexical f.held name file code place r)
+
+-- ---- with tokens
+
+module _ (name : List ℕ) (tokens : Tokens) where
+  -- the unit has this first fault, whatever the files are that give its tokens
+  abbrev IsFault : Code → Place → List ℕ → Type 0
+  IsFault code place file = (h : Contents) → Reads (Some h) name tokens → IsFaulty h name (record { code = code; place = place; file = file })
+
+  told : (held : Option Contents) (code : Code) (place : Place) (file : List ℕ) → IsFault code place file → Reads held name tokens → IfSome held (λ h. IsFaulty h name (record { code = code; place = place; file = file }))
+  told None code place file f r = tt
+  told (Some h) code place file f r = f h r
+
+  -- an end that names this fault, or want of memory
+  fault_end : (e : Ending) (code : Code) (place : Place) (file : List ℕ) → IsFault code place file → (e ≡ ending.Fault code place file) ⊎ (e ≡ ending.NoMemory) → EndsFor e name tokens
+  fault_end e code place file f (inl is) = subst (λ x. EndsFor x name tokens) (sym is) (λ files r out same. (same, told files.held code place file f r))
+  fault_end e code place file f (inr is) = subst (λ x. EndsFor x name tokens) (sym is) (λ files r out same. inl same)
+
+  pub syntax_end : (e : Ending) (code : Code) (place : Place) → IsSyntaxFault tokens.list tokens.end code place → (e ≡ ending.Fault code place (file_of tokens.files place)) ⊎ (e ≡ ending.NoMemory) → EndsFor e name tokens
+  syntax_end e code place f = fault_end e code place (file_of tokens.files place) (λ h r. inr (inl (tokens, r, f, refl)))
+
+  pub unbuilt_end : (e : Ending) (tree : UnitTree) (place : Place) → first_of all_forms (shown_unit tree).marks ≡ Some place → (e ≡ ending.Fault n0 place (file_of tokens.files place)) ⊎ (e ≡ ending.NoMemory) → EndsForTree e name tokens tree
+  unbuilt_end e tree place first is = λ t. fault_end e n0 place (file_of tokens.files place) (λ h r. inr (inr (inl (tokens, tree, record { reads = r; is_tree = t }, first, refl, refl)))) is
+
+  none_or_some : (tree : UnitTree) → IsBuilt tree → statements_of tree ≡ None → (ss : List Stmt) × (statements_of tree ≡ Some ss) → ⊥
+  none_or_some tree b n (ss, s) = let e : None ≡ Some ss = sym n ∙ s in cc
+
+  pub mainless_end : (e : Ending) (tree : UnitTree) → IsBuilt tree → statements_of tree ≡ None → (e ≡ ending.Fault p5 unit_start name) ⊎ (e ≡ ending.NoMemory) → EndsForTree e name tokens tree
+  mainless_end e tree b n is = λ t. fault_end e p5 unit_start name (λ h r. inr (inr (inr (tokens, tree, record { reads = r; is_tree = t }, b, (λ m. none_or_some tree b n (built_is_first tree b m)), refl, refl, refl)))) is
+
+-- ---- sound units
+
+pub is_first : (tree : UnitTree) (ss : List Stmt) → IsBuilt tree → statements_of tree ≡ Some ss → IsFirst tree ss
+is_first tree ss b s = record { built = b; main = first_has_main tree ss s; statements = s }
+
+pub first_valid : (tokens : Tokens) (ss : List Stmt) → AreFirst tokens ss → AreValidStmts (checked ss)
+first_valid tokens ss (tree, t, f) = first_is_valid tree ss f.statements
+
+sound : (held : Option Contents) (name : List ℕ) (tokens : Tokens) (ss : List Stmt) → Reads held name tokens → AreFirst tokens ss → IfSome held (λ h. IsSound h name ss)
+sound None name tokens ss r f = tt
+sound (Some h) name tokens ss r (tree, t, f) = record { tokens = tokens; tree = tree; read = record { reads = r; is_tree = t }; built = f.built; main = f.main; statements = f.statements }
 
 -- what was written is due
-pub due : (held : Option Contents) (name text bytes c_text : List ℕ) → length bytes ≤ most → text ≡ bytes → IfSome held (λ h. h name ≡ Some bytes) → (ss : List Stmt) × IsUnit text ss × IsDue ss c_text → Due held name c_text
-due held name text bytes c_text short e told (ss, u, d) = (ss, d, sound held name text bytes ss short e told u)
+pub due : (held : Option Contents) (name text : List ℕ) (tokens : Tokens) (ss : List Stmt) → Reads held name tokens → AreFirst tokens ss → IsDue ss text → Due held name text
+due held name text tokens ss r f d = (ss, d, sound held name tokens ss r f)
 
--- the program of a unit keeps the rules
-pub unit_fits : (text : List ℕ) (ss : List Stmt) (p : c.Program) → IsUnit text ss → p ≡ lowered_program (checked ss) → IsWellFormed p
-unit_fits text ss p u e = let few = few_locals ss in let small : reach_stmts (checked ss) ≤ 2 ^ 31 = omega arith in rw e (well_formed (checked ss) (valid text ss u) small)
+-- the program of statements keeps the rules
+pub stmts_fit : (ss : List Stmt) (p : c.Program) → AreValidStmts (checked ss) → p ≡ lowered_program (checked ss) → IsWellFormed p
+stmts_fit ss p v e = let few = few_locals ss in let small : reach_stmts (checked ss) ≤ 2 ^ 31 = omega arith in rw e (well_formed (checked ss) v small)
 
--- the printed program of a unit is due for it
-pub is_due : (text c_text : List ℕ) (ss : List Stmt) (p : c.Program) → IsUnit text ss → p ≡ lowered_program (checked ss) → SpellsProgram c_text p → IsDue ss c_text
-is_due text c_text ss p u e s =
+-- the printed program of statements is due for them
+pub is_due : (text : List ℕ) (ss : List Stmt) (p : c.Program) → AreValidStmts (checked ss) → p ≡ lowered_program (checked ss) → SpellsProgram text p → IsDue ss text
+is_due text ss p v e s =
     let few = few_locals ss in
     let small : reach_stmts (checked ss) ≤ 2 ^ 32 = omega arith in
-    record { program = lowered_program (checked ss); spells = subst (SpellsProgram c_text) e s; translates = translates (checked ss) (valid text ss u) small }
+    record { program = lowered_program (checked ss); spells = subst (SpellsProgram text) e s; translates = translates (checked ss) v small }

@@ -4,9 +4,9 @@ use Rattle.std.specs.Prelude.{pos}
 use Rattle.mm_c.specs.CRun.{c_run, Ended, TrappedBy, GoesOn}
 use Rattle.mm_lower.specs.Lowered.{lowered_program}
 use Rattle.mm_lower.proofs.Programs.{translates}
-use Rattle.mm_top.specs.declared.parse.Stmt.{Stmt}
-use Rattle.mm_top.specs.declared.parse.Stmt.TheVariants.{Put, Return}
-use Rattle.mm_top.specs.Grammar.{checked}
+use Rattle.mm_check_unit.specs.declared.first.Stmt.{Stmt}
+use Rattle.mm_check_unit.specs.declared.first.Stmt.TheVariants.{Put, Return}
+use Rattle.mm_check_unit.specs.First.{checked}
 
 abbrev sum : ℕ → ℕ → List Stmt
 sum a b = Put (record { first = a; more = b ∷ [] }) ∷ Return (record { first = 0; more = [] }) ∷ []

@@ -1,14 +1,24 @@
 -- What `link` promises. (Own.)
-use Rattle.std.specs.Prelude.{◌≡◌, ◌⊎◌, ℕ, ◌+◌, ◌<◌, ◌≤◌, List, [], ◌++◌, length, Option, Some, None, IfSome, MatchOption, codes}
+use Rattle.std.specs.Prelude.{◌≡◌, ◌⊎◌, ℕ, ◌+◌, ◌==◌, if◌then◌else◌, List, [], ◌∷◌, ◌++◌, get_or, Option, Some, None, IfSome, MatchOption, codes}
+use Rattle.std.specs.Fmt.{decimal}
 use Rattle.mm_base.specs.Outside.{Contents, Rose, RoseBy, grown, PutsFront}
 use Rattle.mm_core.specs.Tree.{program_of}
 use Rattle.mm_c.specs.Tree as c
 use Rattle.mm_c.specs.Spelling.{SpellsProgram}
 use Rattle.mm_agree.specs.Translates.{Translates}
-use Rattle.mm_top.specs.declared.parse.Stmt.{Stmt}
+use Rattle.mm_base.specs.declared.code.Code.{Code}
+use Rattle.mm_base.specs.declared.place.Place.{Place}
+use Rattle.mm_token.specs.declared.token.Tokens.{Tokens}
+use Rattle.mm_token.specs.declared.token.TokenEnd.TheVariants as token_end
+use Rattle.mm_token.specs.Tokens.{byte_limit, unit_start, Reads, IsRefused}
+use Rattle.mm_syntax.specs.declared.decl.Unit.{Unit as UnitTree}
+use Rattle.mm_syntax.specs.Forms.{all_forms, first_of, shown_unit}
+use Rattle.mm_parse_unit.specs.Units.{IsTreeOf, IsSyntaxFault}
+use Rattle.mm_check_unit.specs.declared.first.Stmt.{Stmt}
+use Rattle.mm_check_unit.specs.First.{checked, statements_of}
+use Rattle.mm_check_unit.specs.Laws.{IsBuilt, DefinesMain}
 use Rattle.mm_top.specs.declared.link.Ending.{Ending}
 use Rattle.mm_top.specs.declared.link.Ending.TheVariants as ending
-use Rattle.mm_top.specs.Grammar.{IsUnit, checked}
 
 -- ---- the objects of the outside, before and after a call
 
@@ -47,27 +57,65 @@ GrewFront text s = PutsFront text s.got s.got'
 
 -- ---- the units
 
--- the most bytes of a file
-abbrev pub most : ℕ
-most = 1048576
+-- The files hold a unit under the name, with these tokens and this tree.
+pub record IsRead (h : Contents) (name : List ℕ) (tokens : Tokens) (tree : UnitTree) : Type 0 where
+  pub reads : Reads (Some h) name tokens
+  pub is_tree : IsTreeOf tokens tree
 
--- The files hold a unit with these statements under the name.
+-- The files hold a unit of these statements under the name, whose trees are all built, and which defines `int main()`.
 pub record IsSound (h : Contents) (name : List ℕ) (ss : List Stmt) : Type 0 where
-  pub text : List ℕ
-  pub held : h name ≡ Some text
-  pub short : length text ≤ most
-  pub unit : IsUnit text ss
+  pub tokens : Tokens
+  pub tree : UnitTree
+  pub read : IsRead h name tokens tree
+  pub built : IsBuilt tree
+  pub main : DefinesMain tree
+  pub statements : statements_of tree ≡ Some ss
 
--- The files hold a text under the name that is no unit.
-pub record IsFaulty (h : Contents) (name : List ℕ) : Type 0 where
-  pub text : List ℕ
-  pub held : h name ≡ Some text
-  pub short : length text ≤ most
-  pub none : (ss : List Stmt) → IsUnit text ss → ⊥
+-- ---- the first fault
 
--- The files hold a text under the name that is past the limit.
-abbrev pub IsLong : Contents → List ℕ → Type 0
-IsLong h name = (text : List ℕ) × (h name ≡ Some text) × (most < length text)
+-- a fault: its code, and its place in the file of this name
+pub record Fault : Type 0 where
+  pub code : Code
+  pub place : Place
+  pub file : List ℕ
+
+-- a tree whose form isn't built; no `int main()`
+abbrev pub n0 : Code
+n0 = record { letter = 78; number = 0 }
+
+abbrev pub p5 : Code
+p5 = record { letter = 80; number = 5 }
+
+-- the name of the file in which a place is
+abbrev pub file_of : List (List ℕ) → Place → List ℕ
+file_of files place = get_or files place.file []
+
+-- The text, with its headers, has a first lexical fault.
+abbrev pub IsLexical : Contents → List ℕ → Fault → Type 0
+IsLexical h name f = IsRefused (Some h) name (token_end.Fault f.code f.place f.file)
+
+-- The tokens have a first syntax fault.
+abbrev pub IsSyntactic : Contents → List ℕ → Fault → Type 0
+IsSyntactic h name f = (tokens : Tokens) × Reads (Some h) name tokens × IsSyntaxFault tokens.list tokens.end f.code f.place × (f.file ≡ file_of tokens.files f.place)
+
+-- A tree stands in the unit whose form isn't built, the first of them here.
+abbrev pub IsUnbuilt : Contents → List ℕ → Fault → Type 0
+IsUnbuilt h name f = (tokens : Tokens) × (tree : UnitTree) × IsRead h name tokens tree × (first_of all_forms (shown_unit tree).marks ≡ Some f.place) × (f.code ≡ n0) × (f.file ≡ file_of tokens.files f.place)
+
+-- Each tree is built, and no `int main()` is defined; at 1:1 of the unit.
+abbrev pub IsMainless : Contents → List ℕ → Fault → Type 0
+IsMainless h name f = (tokens : Tokens) × (tree : UnitTree) × IsRead h name tokens tree × IsBuilt tree × (DefinesMain tree → ⊥) × (f.code ≡ p5) × (f.place ≡ unit_start) × (f.file ≡ name)
+
+-- The unit's first listed fault, in the order in which they count.
+abbrev pub IsFaulty : Contents → List ℕ → Fault → Type 0
+IsFaulty h name f = IsLexical h name f ⊎ IsSyntactic h name f ⊎ IsUnbuilt h name f ⊎ IsMainless h name f
+
+-- The unit, or a header of this name, isn't held; one of them is past its limit.
+abbrev pub IsAbsent : Contents → List ℕ → List ℕ → Type 0
+IsAbsent h name file = (place : Place) × IsRefused (Some h) name (token_end.Absent file place)
+
+abbrev pub IsLong : Contents → List ℕ → List ℕ → Type 0
+IsLong h name file = IsRefused (Some h) name (token_end.TooLong file)
 
 -- The text spells a C program that, for every input and at every bound on the steps, ends, traps or goes on as the
 -- unit does, puts the same numbers, and is never stuck.
@@ -85,31 +133,45 @@ Due held name text = (ss : List Stmt) × IsDue ss text × IfSome held (λ h. IsS
 -- What each end says of the files and the output.
 abbrev pub Linked : Ending → List ℕ → FilesSeen → SinkSeen → Type 0
 Linked ending.Done name files out = (text : List ℕ) × Due files.held name text × Grew text out
-Linked ending.Fault name files out = IsSame out × IfSome files.held (λ h. IsFaulty h name)
-Linked ending.Absent name files out = IsSame out × MatchOption files.held (FilesFailed files) (λ h. h name ≡ None)
-Linked ending.ReadFailed name files out = IsSame out × FilesFailed files
-Linked ending.TooLong name files out = IsSame out × MatchOption files.held (RoseBy (most + 1) files.drawn files.drawn') (λ h. IsLong h name)
+Linked (ending.Fault code place file) name files out = IsSame out × IfSome files.held (λ h. IsFaulty h name (record { code = code; place = place; file = file }))
+Linked (ending.Absent file) name files out = IsSame out × MatchOption files.held (FilesFailed files) (λ h. IsAbsent h name file)
+Linked (ending.ReadFailed file) name files out = IsSame out × FilesFailed files
+Linked (ending.TooLong file) name files out = IsSame out × MatchOption files.held (RoseBy (byte_limit + 1) files.drawn files.drawn') (λ h. IsLong h name file)
 Linked ending.WriteFailed name files out = (text : List ℕ) × Due files.held name text × GrewFront text out × SinkFailed out
 Linked ending.NoMemory name files out = IsSame out ⊎ ((text : List ℕ) × Due files.held name text × GrewFront text out)
 
 abbrev pub status_of : Ending → ℕ
 status_of ending.Done = 0
-status_of ending.Fault = 1
-status_of ending.Absent = 3
-status_of ending.ReadFailed = 3
-status_of ending.TooLong = 13
+status_of (ending.Fault code place file) = 1
+status_of (ending.Absent file) = 3
+status_of (ending.ReadFailed file) = 3
+status_of (ending.TooLong file) = 13
 status_of ending.WriteFailed = 4
 status_of ending.NoMemory = 9
 
+-- ---- messages
+
+-- a letter and a number, as `Y1`
+abbrev pub code_text : Code → List ℕ
+code_text code = code.letter ∷ decimal code.number
+
+-- what follows the code: those of letter P name what they are about, which today is `main`
+abbrev pub behind : Code → List ℕ
+behind code = if code.letter == 80 then codes " main" else []
+
+-- FILE:LINE:COLUMN: CODE
+abbrev pub fault_message : Code → Place → List ℕ → List ℕ
+fault_message code place file = file ++ codes ":" ++ decimal place.line ++ codes ":" ++ decimal place.col ++ codes ": " ++ code_text code ++ behind code ++ codes "\n"
+
 -- the line on err
-abbrev pub message_of : Ending → List ℕ → List ℕ
-message_of ending.Done name = []
-message_of ending.Fault name = name ++ codes ":1:1: N0\n"
-message_of ending.Absent name = codes "mmc: no file " ++ name ++ codes "\n"
-message_of ending.ReadFailed name = codes "mmc: read failed " ++ name ++ codes "\n"
-message_of ending.TooLong name = name ++ codes ": longer than 1048576 bytes\n"
-message_of ending.WriteFailed name = codes "mmc: write failed\n"
-message_of ending.NoMemory name = codes "mmc: no memory\n"
+abbrev pub message_of : Ending → List ℕ
+message_of ending.Done = []
+message_of (ending.Fault code place file) = fault_message code place file
+message_of (ending.Absent file) = codes "mmc: no file " ++ file ++ codes "\n"
+message_of (ending.ReadFailed file) = codes "mmc: read failed " ++ file ++ codes "\n"
+message_of (ending.TooLong file) = file ++ codes ": longer than 1048576 bytes\n"
+message_of ending.WriteFailed = codes "mmc: write failed\n"
+message_of ending.NoMemory = codes "mmc: no memory\n"
 
 abbrev pub usage_message : List ℕ
 usage_message = codes "mmc: usage\n"
@@ -117,7 +179,7 @@ usage_message = codes "mmc: usage\n"
 -- the lines that there can be, by what the words ask
 pub data IsMessage : Option (List ℕ) → List ℕ → Type 0 where
   for_no_command : IsMessage None usage_message
-  for_file : (end : Ending) (name : List ℕ) → IsMessage (Some name) (message_of end name)
+  for_file : (end : Ending) (name : List ℕ) → IsMessage (Some name) (message_of end)
 
 -- The whole message was put on err, or a front of it where err failed.
 abbrev pub Says : List ℕ → SinkSeen → Type 0
@@ -134,18 +196,18 @@ Reports due message status err =
 pub record Answers (status : ℕ) (asked : Option (List ℕ)) (files : FilesSeen) (out err : SinkSeen) : Type 0 where
   -- The headline: after 0, out grew by exactly a C text that is due, and nothing was said.
   pub done : status ≡ 0 → (name : List ℕ) × (asked ≡ Some name) × (text : List ℕ) × Due files.held name text × Grew text out × IsSame err
-  -- 1: the text is none of the accepted ones
-  pub fault : status ≡ 1 → (name : List ℕ) × (asked ≡ Some name) × IfSome files.held (λ h. IsFaulty h name) × IsSame out × Says (message_of ending.Fault name) err
+  -- 1: the unit has a listed fault, and this is the first, at its place in the file where it stands
+  pub fault : status ≡ 1 → (name : List ℕ) × (asked ≡ Some name) × (f : Fault) × IfSome files.held (λ h. IsFaulty h name f) × IsSame out × Says (fault_message f.code f.place f.file) err
   -- 2: the words are no command
   pub usage : status ≡ 2 → (asked ≡ None) × IsSame out × Says usage_message err
-  -- 3: the file isn't there, or a read failed
-  pub unread : status ≡ 3 → (name : List ℕ) × (asked ≡ Some name) × IsSame out
-      × ((MatchOption files.held (FilesFailed files) (λ h. h name ≡ None) × Says (message_of ending.Absent name) err) ⊎ (FilesFailed files × Says (message_of ending.ReadFailed name) err))
+  -- 3: the unit's file or a header isn't there, or a read failed
+  pub unread : status ≡ 3 → (name : List ℕ) × (asked ≡ Some name) × IsSame out × (file : List ℕ)
+      × ((MatchOption files.held (FilesFailed files) (λ h. IsAbsent h name file) × Says (message_of (ending.Absent file)) err) ⊎ (FilesFailed files × Says (message_of (ending.ReadFailed file)) err))
   -- 4: a write failed, behind a front of the text that was due
-  pub unwritten : status ≡ 4 → (name : List ℕ) × (asked ≡ Some name) × (text : List ℕ) × Due files.held name text × GrewFront text out × SinkFailed out × Says (message_of ending.WriteFailed name) err
-  -- 13: the file is past the limit
-  pub long : status ≡ 13 → (name : List ℕ) × (asked ≡ Some name) × IsSame out × Says (message_of ending.TooLong name) err
-      × MatchOption files.held (RoseBy (most + 1) files.drawn files.drawn') (λ h. IsLong h name)
+  pub unwritten : status ≡ 4 → (name : List ℕ) × (asked ≡ Some name) × (text : List ℕ) × Due files.held name text × GrewFront text out × SinkFailed out × Says (message_of ending.WriteFailed) err
+  -- 13: a file is past the limit
+  pub long : status ≡ 13 → (name : List ℕ) × (asked ≡ Some name) × IsSame out × (file : List ℕ) × Says (message_of (ending.TooLong file)) err
+      × MatchOption files.held (RoseBy (byte_limit + 1) files.drawn files.drawn') (λ h. IsLong h name file)
   -- 9: memory ran out; out is as it was, or has a front of the text that was due, and err a front of a message
   pub no_memory : status ≡ 9 → (IsSame out ⊎ ((name : List ℕ) × (asked ≡ Some name) × (text : List ℕ) × Due files.held name text × GrewFront text out))
       × ((message : List ℕ) × (IsMessage asked message ⊎ (message ≡ codes "mmc: no memory\n")) × GrewFront message err)
@@ -153,7 +215,7 @@ pub record Answers (status : ℕ) (asked : Option (List ℕ)) (files : FilesSeen
   pub only : (status ≡ 0) ⊎ (status ≡ 1) ⊎ (status ≡ 2) ⊎ (status ≡ 3) ⊎ (status ≡ 4) ⊎ (status ≡ 13) ⊎ (status ≡ 9)
   -- The other way, where files tell what they hold and have not failed, and out has not: each case has its status, or memory ran out.
   pub complete : (h : Contents) (name : List ℕ) (ss : List Stmt) → files.held ≡ Some h → asked ≡ Some name → IsSound h name ss → (FilesFailed files → ⊥) → (SinkFailed out → ⊥) → (status ≡ 0) ⊎ (status ≡ 9)
-  pub refused : (h : Contents) (name : List ℕ) → files.held ≡ Some h → asked ≡ Some name → IsFaulty h name → (FilesFailed files → ⊥) → (status ≡ 1) ⊎ (status ≡ 9)
-  pub past_limit : (h : Contents) (name : List ℕ) → files.held ≡ Some h → asked ≡ Some name → IsLong h name → (FilesFailed files → ⊥) → (status ≡ 13) ⊎ (status ≡ 9)
-  pub missing : (h : Contents) (name : List ℕ) → files.held ≡ Some h → asked ≡ Some name → h name ≡ None → (FilesFailed files → ⊥) → (status ≡ 3) ⊎ (status ≡ 9)
+  pub refused : (h : Contents) (name : List ℕ) (f : Fault) → files.held ≡ Some h → asked ≡ Some name → IsFaulty h name f → (FilesFailed files → ⊥) → ((status ≡ 1) × Says (fault_message f.code f.place f.file) err) ⊎ (status ≡ 9)
+  pub past_limit : (h : Contents) (name file : List ℕ) → files.held ≡ Some h → asked ≡ Some name → IsLong h name file → (FilesFailed files → ⊥) → (status ≡ 13) ⊎ (status ≡ 9)
+  pub missing : (h : Contents) (name file : List ℕ) → files.held ≡ Some h → asked ≡ Some name → IsAbsent h name file → (FilesFailed files → ⊥) → (status ≡ 3) ⊎ (status ≡ 9)
   pub no_command : asked ≡ None → (status ≡ 2) ⊎ (status ≡ 9)

@@ -4,8 +4,6 @@
 mod link;
 #[tactic(auto, using(crate::proofs::Codes::lower_rules))]
 mod lower;
-mod parse;
-mod scan;
 mod top;
 mod words;
 

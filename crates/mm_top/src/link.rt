@@ -1,49 +1,160 @@
 // From a file to a C text.
 
-ghost use Rattle.std.specs.Prelude.{◌≡◌, ◌≤◌, List, IfOk, IfSome, IfNone};
-ghost use Rattle.mm_top.specs.Grammar.{IsUnit};
-ghost use Rattle.mm_top.specs.Headline.{IsDue, Linked};
-ghost use Rattle.mm_top.specs.declared.parse.Stmt.{Stmt};
+ghost use Rattle.std.specs.Prelude.{◌≡◌, ◌⊎◌, IfOk, MatchResult};
+ghost use Rattle.mm_core.specs.Valid.{AreValidStmts};
+ghost use Rattle.mm_token.specs.Tokens.{Reads};
+ghost use Rattle.mm_parse_unit.specs.Units.{IsTreeOf};
+ghost use Rattle.mm_check_unit.specs.First.{checked};
+ghost use Rattle.mm_top.specs.Headline.{file_of, Due, IsDue, Linked};
+ghost use Rattle.mm_top.specs.Linking.{Ends, EndsFor, EndsForTree, IsFirst, AreFirst};
+ghost use Rattle.mm_top.specs.declared.link.Ending.TheVariants as ending;
 
 use crate::lower::lower;
-use crate::parse::unit;
-use crate::scan::tokens;
-use mm_base::code::NoMemory;
-use mm_base::outside::{FileEnd, Files, Sink};
+use mm_base::code::{Code, NoMemory};
+use mm_base::outside::{Files, Sink};
+use mm_base::place::Place;
+use mm_base::text::Text;
 use mm_base::writing::{WriteEnd, put_all};
 use mm_c_print::print;
+use mm_check_unit::first::{Stmt, statements};
+use mm_parse_expr::ParseEnd;
+use mm_parse_unit::unit;
+use mm_syntax::decl::Unit;
+use mm_syntax::walk::{Forms, walk_any};
+use mm_token::read::get_tokens;
+use mm_token::token::{TokenEnd, Tokens};
 use std::alloc::Global;
 
-/// The most bytes of a file.
-pub const MOST: u64 = 1_048_576;
-
 /// How the linking of a file ended.
-#[derive(Clone, Copy, Debug, PartialEq, Eq)]
+#[derive(Drop)]
 pub enum Ending {
     /// The C text was written.
     Done,
-    /// The text is none of those that are accepted.
-    Fault,
-    Absent,
-    ReadFailed,
-    TooLong,
+    /// The unit is refused: a code, and a place in the file of this name.
+    Fault(Code, Place, Text),
+    /// No file of this name is held: the unit's own, or one that it includes.
+    Absent(Text),
+    ReadFailed(Text),
+    TooLong(Text),
     WriteFailed,
     NoMemory,
 }
 
-/// The C text of a unit, where the text is that of a unit.
-fn translate(alloc: Global, text: &[u8]) -> Result<Option<Vec<u8>>, NoMemory>
-    ensures found { IfOk result (λ found. IfSome found (λ c. (ss : List Stmt) × IsUnit text.now ss × IsDue ss c.items)) }
-    ensures none { IfOk result (λ found. IfNone found ((ss : List Stmt) → IsUnit text.now ss → ⊥)) }
+/// A tree of a form that isn't built.
+const NOT_BUILT: Code = Code {
+    letter: b'N',
+    number: 0,
+};
+
+/// No `int main()`.
+const NO_MAIN: Code = Code {
+    letter: b'P',
+    number: 5,
+};
+
+/// Where a unit begins.
+const START: Place = Place {
+    file: 0,
+    line: 1,
+    col: 1,
+};
+
+/// A fault at a place of the file of this name.
+fn fault_in(alloc: Global, code: Code, place: Place, file: &str) -> Ending
+    ensures { (result ≡ ending.Fault code place file.now) ⊎ (result ≡ ending.NoMemory) }
 {
-    let Some(list) = tokens(alloc, text)? else {
-        return Ok(None);
+    match Text::from_str(alloc, file) {
+        Ok(file) => Ending::Fault(code, place, file),
+        Err(_) => Ending::NoMemory,
+    }
+}
+
+/// A fault at a place of these tokens.
+fn fault(alloc: Global, code: Code, place: Place, tokens: &Tokens) -> Ending
+    ensures { (result ≡ ending.Fault code place (file_of tokens.now.files place)) ⊎ (result ≡ ending.NoMemory) }
+{
+    match tokens.files.as_slice().get(place.file as usize) {
+        Some(file) => fault_in(alloc, code, place, file.as_str()),
+        None => fault_in(alloc, code, place, ""),
+    }
+}
+
+/// The tokens of a unit.
+fn read<F: Files>(alloc: Global, name: &str, files: &mut F) -> Result<Tokens, Ending>
+    ensures { MatchResult result (Reads (F.held files.old) name.now) (λ e. Ends e name.now
+        (record { held = F.held files.old; faults = F.faults files.old; faults' = F.faults files.new; drawn = F.drawn files.old; drawn' = F.drawn files.new })) }
+{
+    match get_tokens(alloc, files, name) {
+        Ok(tokens) => Ok(tokens),
+        Err(TokenEnd::Absent(file, _)) => Err(Ending::Absent(file)),
+        Err(TokenEnd::Failed(file)) => Err(Ending::ReadFailed(file)),
+        Err(TokenEnd::TooLong(file)) => Err(Ending::TooLong(file)),
+        Err(TokenEnd::Fault(code, place, file)) => Err(Ending::Fault(code, place, file)),
+        Err(TokenEnd::NoMemory) => Err(Ending::NoMemory),
+    }
+}
+
+/// The tree of these tokens.
+fn parse(alloc: Global, name: &str, tokens: &Tokens) -> Result<Unit, Ending>
+    ensures { MatchResult result (IsTreeOf tokens.now) (λ e. EndsFor e name.now tokens.now) }
+{
+    match unit(alloc, tokens) {
+        Ok(tree) => Ok(tree),
+        Err(ParseEnd::Fault(code, place)) => Err(fault(alloc, code, place, tokens)),
+        Err(ParseEnd::NoMemory) => Err(Ending::NoMemory),
+    }
+}
+
+/// The statements of a tree.
+fn check(alloc: Global, name: &str, tokens: &Tokens, tree: &Unit) -> Result<Vec<Stmt>, Ending>
+    ensures { MatchResult result (λ v. IsFirst tree.now v.items) (λ e. EndsForTree e name.now tokens.now tree.now) }
+{
+    if let Some(place) = walk_any(tree, Forms::all()) {
+        return Err(fault(alloc, NOT_BUILT, place, tokens));
+    }
+    match statements(alloc, tree) {
+        Ok(Some(stmts)) => Ok(stmts),
+        Ok(None) => Err(fault_in(alloc, NO_MAIN, START, name)),
+        Err(_) => Err(Ending::NoMemory),
+    }
+}
+
+/// The statements of these tokens.
+fn front(alloc: Global, name: &str, tokens: &Tokens) -> Result<Vec<Stmt>, Ending>
+    ensures { MatchResult result (λ v. AreFirst tokens.now v.items) (λ e. EndsFor e name.now tokens.now) }
+{
+    match parse(alloc, name, tokens) {
+        Ok(tree) => check(alloc, name, tokens, &tree),
+        Err(e) => Err(e),
+    }
+}
+
+/// The C text of statements.
+fn back(alloc: Global, stmts: &[Stmt]) -> Result<Vec<u8>, NoMemory>
+    requires { AreValidStmts (checked stmts.now) }
+    ensures { IfOk result (λ text. IsDue stmts.now text.items) }
+{
+    let program = lower(alloc, stmts)?;
+    Ok(print(alloc, &program)?)
+}
+
+/// The C text of a unit.
+fn translate<F: Files>(alloc: Global, name: &str, files: &mut F) -> Result<Vec<u8>, Ending>
+    ensures { MatchResult result (λ text. Due (F.held files.old) name.now text.items) (λ e. Ends e name.now
+        (record { held = F.held files.old; faults = F.faults files.old; faults' = F.faults files.new; drawn = F.drawn files.old; drawn' = F.drawn files.new })) }
+{
+    let tokens = match read(alloc, name, files) {
+        Ok(tokens) => tokens,
+        Err(e) => return Err(e),
     };
-    let Some(stmts) = unit(alloc, list.as_slice())? else {
-        return Ok(None);
+    let stmts = match front(alloc, name, &tokens) {
+        Ok(stmts) => stmts,
+        Err(e) => return Err(e),
     };
-    let program = lower(alloc, stmts.as_slice())?;
-    Ok(Some(print(alloc, &program)?))
+    match back(alloc, stmts.as_slice()) {
+        Ok(text) => Ok(text),
+        Err(_) => Err(Ending::NoMemory),
+    }
 }
 
 /// Reads a file and writes its C text.
@@ -52,21 +163,13 @@ pub fn link<F: Files, O: Sink>(alloc: Global, name: &str, files: &mut F, out: &m
         (record { held = F.held files.old; faults = F.faults files.old; faults' = F.faults files.new; drawn = F.drawn files.old; drawn' = F.drawn files.new })
         (record { got = O.got out.old; got' = O.got out.new; faults = O.faults out.old; faults' = O.faults out.new }) }
 {
-    let mut text = Vec::new(alloc);
-    match files.read(name, MOST, &mut text) {
-        FileEnd::Done => {}
-        FileEnd::Absent => return Ending::Absent,
-        FileEnd::TooLong => return Ending::TooLong,
-        FileEnd::Failed => return Ending::ReadFailed,
-        FileEnd::NoMemory => return Ending::NoMemory,
-    }
-    match translate(alloc, text.as_slice()) {
-        Err(_) => Ending::NoMemory,
-        Ok(None) => Ending::Fault,
-        Ok(Some(c_text)) => match put_all(out, c_text.as_slice()) {
-            WriteEnd::Done => Ending::Done,
-            WriteEnd::Failed => Ending::WriteFailed,
-            WriteEnd::NoMemory => Ending::NoMemory,
-        },
+    let text = match translate(alloc, name, files) {
+        Ok(text) => text,
+        Err(e) => return e,
+    };
+    match put_all(out, text.as_slice()) {
+        WriteEnd::Done => Ending::Done,
+        WriteEnd::Failed => Ending::WriteFailed,
+        WriteEnd::NoMemory => Ending::NoMemory,
     }
 }

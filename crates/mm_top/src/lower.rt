@@ -6,12 +6,12 @@ ghost use Rattle.mm_c.specs.Tree as tree;
 ghost use Rattle.mm_c.specs.Tree.{◌⨾◌, just};
 ghost use Rattle.mm_c.specs.View.{atom_view, right_view, code_view, stmt_view, block_view, program_view};
 ghost use Rattle.mm_lower.specs.Lowered.{local, value_in, block_of, trap_code, overflow_if, below_test, above_test, sum_test, operator, lowered, lowered_stmt, lowered_stmts, lowered_program, locals_from, reach, reach_stmt, reach_stmts};
-ghost use Rattle.mm_top.specs.Grammar.{sum_expr, checked_stmt, checked};
+ghost use Rattle.mm_check_unit.specs.First.{sum_expr, checked_stmt, checked};
 ghost use Rattle.mm_top.specs.Lowering.{number_of};
 
-use crate::parse::{Stmt, Sum};
 use mm_base::text::Text;
 use mm_c::tree::{CAtom, CBlock, CFunction, COperator, CProgram, CRight, CStmt};
+use mm_check_unit::first::{Stmt, Sum};
 use sqlite_items::Items;
 use std::alloc::{AllocError, Global};
 

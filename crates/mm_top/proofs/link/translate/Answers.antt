@@ -1,22 +1,14 @@
-use Rattle.std.proofs.Common.{Some, sym, ap, ◌∙◌}
-use Rattle.mm_c.specs.View.{program_view}
-use Rattle.mm_lower.specs.Lowered.{lowered_program}
-use Rattle.mm_top.specs.Grammar.{checked}
-use Rattle.mm_top.proofs.LinkLaws.{unit_fits, is_due}
+use Rattle.std.proofs.Common.{sym, subst}
+use Rattle.mm_core.specs.Valid.{AreValidStmts}
+use Rattle.mm_check_unit.specs.First.{checked}
+use Rattle.mm_top.specs.Headline.{IsDue}
+use Rattle.mm_top.proofs.LinkLaws.{first_valid, due}
 use Rattle.mm_top.proofs.link.translate.Goals as goal
 
-pub print-requires : goal.print-requires
-print-requires c =
-    let ss = c.in-Some-2.stmts.items in
-    let read = rw c.in-Some.is at c.in_ok-list.ensures in
-    let parsed = rw c.in-Some-2.is at c.in_ok-stmts.ensures.found in
-    let u = read ∙ ap Some (sym c.as_slice.ensures.value ∙ parsed) in
-    unit_fits c.args.text.now ss (program_view c.in_ok-program.program) u (c.in_ok-program.ensures ∙ ap (λ l. lowered_program (checked l)) c.as_slice-2.ensures.value)
+pub back-requires : goal.back-requires
+back-requires g c = subst (λ ss. AreValidStmts (checked ss)) (sym c.as_slice.ensures.value) (first_valid c.in-Ok.tokens c.in-Ok-front.stmts.items c.in-Ok-front.ensures)
 
-pub returns-clause-found : goal.returns-clause-found
-returns-clause-found c =
-    let ss = c.in-Some-2.stmts.items in
-    let read = rw c.in-Some.is at c.in_ok-list.ensures in
-    let parsed = rw c.in-Some-2.is at c.in_ok-stmts.ensures.found in
-    let u = read ∙ ap Some (sym c.as_slice.ensures.value ∙ parsed) in
-    (ss, u, is_due c.args.text.now c.in_ok-print.field-0.items ss (program_view c.in_ok-program.program) u (c.in_ok-program.ensures ∙ ap (λ l. lowered_program (checked l)) c.as_slice-2.ensures.value) c.in_ok-print.ensures.spells)
+pub returns-in-Ok-back : goal.returns-in-Ok-back
+returns-in-Ok-back g c =
+    due (g.F.Files.held c.args.files.now) c.args.name.now c.in-Ok-back.text.items c.in-Ok.tokens c.in-Ok-front.stmts.items c.in-Ok.ensures c.in-Ok-front.ensures
+    (subst (λ ss. IsDue ss c.in-Ok-back.text.items) c.as_slice.ensures.value c.in-Ok-back.ensures)

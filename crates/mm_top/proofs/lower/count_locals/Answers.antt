@@ -1,6 +1,6 @@
 use Rattle.std.proofs.Common.{◌∙◌, ap}
 use Rattle.mm_lower.specs.Lowered.{reach_stmt}
-use Rattle.mm_top.specs.Grammar.{checked_stmt}
+use Rattle.mm_check_unit.specs.First.{checked_stmt}
 use Rattle.mm_top.proofs.Codes.{count_more}
 use Rattle.mm_top.proofs.lower.count_locals.Goals as goal
 

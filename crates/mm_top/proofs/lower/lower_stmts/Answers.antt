@@ -2,7 +2,7 @@ use Rattle.std.proofs.Common.{◌∙◌, ap}
 use Rattle.mm_c.specs.Tree.{◌⨾◌}
 use Rattle.mm_c.specs.View.{code_view}
 use Rattle.mm_lower.specs.Lowered.{lowered_stmt}
-use Rattle.mm_top.specs.Grammar.{checked_stmt}
+use Rattle.mm_check_unit.specs.First.{checked_stmt}
 use Rattle.mm_top.proofs.Codes.{code_more}
 use Rattle.mm_top.proofs.lower.lower_stmts.Goals as goal
 

@@ -4,7 +4,7 @@ use Rattle.mm_core.specs.Tree.{int}
 use Rattle.mm_c.specs.Tree.{◌⨾◌}
 use Rattle.mm_c.specs.View.{code_view}
 use Rattle.mm_lower.specs.Lowered.{lowered}
-use Rattle.mm_top.specs.Grammar.{adds}
+use Rattle.mm_check_unit.specs.First.{adds}
 use Rattle.mm_top.proofs.lower.lower_sum.Given as goal
 
 abbrev pub invariant-loop-number : goal.invariant-loop-number

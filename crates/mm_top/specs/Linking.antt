@@ -1,0 +1,33 @@
+-- What the steps of `link` leave for the next: how a linking ends that comes to no statements.
+use Rattle.std.specs.Prelude.{◌≡◌, ℕ, List, Some}
+use Rattle.mm_token.specs.declared.token.Tokens.{Tokens}
+use Rattle.mm_token.specs.Tokens.{Reads}
+use Rattle.mm_syntax.specs.declared.decl.Unit.{Unit as UnitTree}
+use Rattle.mm_parse_unit.specs.Units.{IsTreeOf}
+use Rattle.mm_check_unit.specs.declared.first.Stmt.{Stmt}
+use Rattle.mm_check_unit.specs.First.{statements_of}
+use Rattle.mm_check_unit.specs.Laws.{IsBuilt, DefinesMain}
+use Rattle.mm_top.specs.declared.link.Ending.{Ending}
+use Rattle.mm_top.specs.Headline.{FilesSeen, SinkSeen, IsSame, Linked}
+
+-- the linking ends so with nothing written
+abbrev pub Ends : Ending → List ℕ → FilesSeen → Type 0
+Ends ending name files = (out : SinkSeen) → IsSame out → Linked ending name files out
+
+-- The linking of a unit with these tokens ends so.
+abbrev pub EndsFor : Ending → List ℕ → Tokens → Type 0
+EndsFor ending name tokens = (files : FilesSeen) → Reads files.held name tokens → Ends ending name files
+
+-- The linking of a unit with these tokens and this tree ends so.
+abbrev pub EndsForTree : Ending → List ℕ → Tokens → UnitTree → Type 0
+EndsForTree ending name tokens tree = IsTreeOf tokens tree → EndsFor ending name tokens
+
+-- The tree is a first text of these statements, all of it built, and `int main()` among it.
+pub record IsFirst (tree : UnitTree) (ss : List Stmt) : Type 0 where
+  pub built : IsBuilt tree
+  pub main : DefinesMain tree
+  pub statements : statements_of tree ≡ Some ss
+
+-- the same of the tree of these tokens
+abbrev pub AreFirst : Tokens → List Stmt → Type 0
+AreFirst tokens ss = (tree : UnitTree) × IsTreeOf tokens tree × IsFirst tree ss
