@@ -4,6 +4,8 @@
 ghost use Rattle.std.specs.Prelude.{◌≡◌};
 ghost use Rattle.mm_parse_unit.specs.Units.{Parses};
 
+pub mod law;
+
 use mm_parse_expr::ParseEnd;
 use mm_syntax::decl::Unit;
 use mm_token::token::Tokens;
