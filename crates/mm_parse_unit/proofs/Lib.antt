@@ -1,3 +1,5 @@
 pub mod Prefixes
 pub mod Deeper
 pub mod OneAnswer
+pub mod Elsewhere
+pub mod Exits
