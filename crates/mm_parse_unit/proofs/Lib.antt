@@ -3,3 +3,4 @@ pub mod Deeper
 pub mod OneAnswer
 pub mod Elsewhere
 pub mod Exits
+pub mod Counted
