@@ -4,3 +4,4 @@ pub mod OneAnswer
 pub mod Elsewhere
 pub mod Exits
 pub mod Counted
+pub mod Faults

@@ -58,7 +58,7 @@ two_ends tokens end c d p q x y = (
 no_limit : (a e : List Token) (k : Token) → IsPastCount a ⊎ IsTooDeep a k → KeepsCount (a ++ k ∷ e) → IsFront nesting (a ++ k ∷ e) → ⊥
 no_limit a e k past counted front = elim past [ inl i ↦ counted a e k refl i | inr i ↦ i.too_deep (up_to nesting a e k front) ]
 
-keeps_front : (a b : List Token) → KeepsCount (a ++ b) → KeepsCount a
+pub keeps_front : (a b : List Token) → KeepsCount (a ++ b) → KeepsCount a
 keeps_front a b h before after t e p = h before (after ++ b) t (ap (λ w. w ++ b) e ∙ append_assoc before (t ∷ after) b) p
 
 two_limits : (tokens : List Token) (c d : Code) (p q : Place) → IsPastLimit tokens c p → IsPastLimit tokens d q → (c ≡ d) × (p ≡ q)

@@ -4,7 +4,7 @@
 ghost use Rattle.std.specs.Prelude.{◌≡◌, ◌<◌, IfOk, length, take};
 ghost use Rattle.mm_parse_expr.specs.Longest.{place_of};
 ghost use Rattle.mm_parse_unit.specs.Units.{nesting, Parses};
-ghost use Rattle.mm_parse_unit.specs.Reading.{unit_of, Faults, IsFirstPast, IsNoText, IsReading, StopsBefore};
+ghost use Rattle.mm_parse_unit.specs.Reading.{unit_of, Faults, GoesOn, IsFirstPast, IsNoText, IsReading, StopsBefore};
 
 mod build;
 mod count;
@@ -82,22 +82,31 @@ fn first_fault(alloc: Global, tokens: &[Token], at: usize, left: usize, end: Pla
     ParseEnd::Fault(NO_TEXT, end)
 }
 
-/// The fault at a token with which no unit within the limits goes on. The tokens up to it are read again, without the
-/// limit on nesting: they nest one deeper than is allowed at most, since the tokens before it keep that limit.
+/// The fault at a token with which no unit within the limits goes on.
 fn fault_at(alloc: Global, tokens: &[Token], at: usize) -> ParseEnd
     requires within { at < length tokens.now }
     requires stops { StopsBefore tokens.now at }
     ensures { (end : Place) → Faults tokens.now end result }
 {
     let place = tokens[at].place;
-    let mut cursor = Cursor::new(&tokens[..at + 1]);
-    if let Err(Stop::NoMemory) = decls(alloc, &mut cursor, UNLIMITED) {
-        return ParseEnd::NoMemory;
+    match goes_on(alloc, &tokens[..at + 1]) {
+        Ok(true) => ParseEnd::Fault(PAST_LIMIT, place),
+        Ok(false) => ParseEnd::Fault(NO_TEXT, place),
+        Err(_) => ParseEnd::NoMemory,
     }
-    if cursor.rest().is_empty() {
-        return ParseEnd::Fault(PAST_LIMIT, place);
+}
+
+/// Whether a unit may begin with the tokens, where statements may stand one inside the other without a limit. The last
+/// token alone may be past the limit, so that they nest one deeper at most than a unit does.
+fn goes_on(alloc: Global, tokens: &[Token]) -> Result<bool, Stop>
+    ensures { IfOk result (λ v. GoesOn tokens.now v) }
+{
+    let mut cursor = Cursor::new(tokens);
+    match decls(alloc, &mut cursor, UNLIMITED) {
+        Ok(_) => Ok(cursor.rest().is_empty()),
+        Err(Stop::Fault) => Ok(cursor.rest().is_empty()),
+        Err(Stop::NoMemory) => Err(Stop::NoMemory),
     }
-    ParseEnd::Fault(NO_TEXT, place)
 }
 
 /// The tree of these declarations and the tokens' files.
