@@ -1,11 +1,11 @@
 -- Tokens that keep the limit on their count, one after another.
 use Rattle.std.proofs.Common.{◌≡◌, ℕ, suc, ◌+◌, ◌≤◌, ◌<◌, Bool, true, false, if◌then◌else◌, List, [], ◌∷◌, ◌++◌, length, take, get_or, refl, ap, sym, ◌∙◌, arith, subst}
-use Rattle.std.proofs.lemmas.List.{take_more, append-nil}
+use Rattle.std.proofs.lemmas.List.{take_more}
 use Rattle.mm_grammar.proofs.Lists.{equal, later, earlier, cuts}
 use Rattle.mm_token.specs.declared.token.Token.{Token}
 use Rattle.mm_parse_expr.specs.Longest.{count_from, ends_count}
 use Rattle.mm_parse_expr.proofs.Count.{count_snoc}
-use Rattle.mm_parse_unit.specs.Units.{IsPastCount, KeepsCount}
+use Rattle.mm_parse_unit.specs.Units.{KeepsCount}
 use Rattle.mm_parse_unit.specs.Reading.{IsFirstPast}
 
 -- what is counted of the tokens before an index

@@ -1,5 +1,5 @@
 -- One of two parts, where no token of the other stands; and readers that take a token.
-use Rattle.std.proofs.Common.{◌≡◌, ◌<◌, ◌+◌, IsTrue, not, List, [], ◌∷◌, ◌++◌, inl, inr, length, refl, ap, sym, ◌∙◌, subst, arith}
+use Rattle.std.proofs.Common.{◌≡◌, ◌<◌, IsTrue, not, List, [], ◌∷◌, ◌++◌, inl, inr, length, refl, ap, sym, ◌∙◌, subst, arith}
 use Rattle.std.proofs.lemmas.List.{length-append}
 use Rattle.mm_grammar.specs.Grammar.{alt, has, Avoids, Front, Spells, Stuck, Reads, Fails, RuleSpells, RuleFront}
 use Rattle.mm_grammar.specs.Ahead.{first_of, empty_of, Good}

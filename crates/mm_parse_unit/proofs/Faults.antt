@@ -1,5 +1,5 @@
 -- From readings of the tokens up to the first one past the limit to units and their first faults.
-use Rattle.std.proofs.Common.{◌≡◌, ℕ, zero, suc, ◌+◌, ◌-◌, ◌<◌, ◌≤◌, Bool, true, false, List, [], ◌∷◌, ◌++◌, ◌⊎◌, inl, inr, length, take, drop, slice_index_or, refl, ap, sym, ◌∙◌, subst, arith, append_assoc, drop-cons, length-take-le, ◌==◌, Result, Ok, Err}
+use Rattle.std.proofs.Common.{◌≡◌, ℕ, zero, suc, ◌+◌, ◌-◌, ◌<◌, ◌≤◌, Bool, true, false, List, [], ◌∷◌, ◌++◌, inl, inr, length, take, drop, slice_index_or, refl, ap, sym, ◌∙◌, subst, arith, append_assoc, drop-cons, length-take-le, ◌==◌, Err}
 use Rattle.std.proofs.lemmas.List.{append-nil, length-append, take_more, take_at, take-append-drop}
 use Rattle.mm_grammar.specs.Grammar.{name, Spells, Stuck, Reads, Fails}
 use Rattle.mm_grammar.proofs.Lists.{same}
@@ -13,7 +13,7 @@ use Rattle.mm_cursor.specs.declared.Stop.{Stop}
 use Rattle.mm_cursor.specs.declared.Stop.TheVariants as stop
 use Rattle.mm_cursor.specs.Cursor.{Answers}
 use Rattle.mm_parse_expr.specs.Longest.{y1, y2}
-use Rattle.mm_parse_unit.specs.Units.{nesting, unlimited, IsFront, IsPastCount, KeepsCount, IsUnit, IsTooDeep, IsPastLimit, IsNoUnit, IsSyntaxFault, IsTreeOf}
+use Rattle.mm_parse_unit.specs.Units.{nesting, unlimited, IsFront, KeepsCount, IsUnit, IsSyntaxFault, IsTreeOf}
 use Rattle.mm_parse_unit.specs.Reading.{IsFirstPast, IsReading, IsNoText, StopsBefore, GoesOn, unit_of}
 use Rattle.mm_parse_unit.proofs.Elsewhere.{whole}
 use Rattle.mm_parse_unit.proofs.OneAnswer.{keeps_front}

@@ -1,4 +1,4 @@
-use Rattle.std.proofs.Common.{arith, inr, inl}
+use Rattle.std.proofs.Common.{arith}
 use Rattle.mm_parse_unit.proofs.Faults.{left_within, stops_before, count_fault, end_fault}
 use Rattle.mm_parse_unit.proofs.first_fault.Goals as goal
 

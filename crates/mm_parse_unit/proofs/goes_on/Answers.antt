@@ -1,4 +1,4 @@
-use Rattle.std.proofs.Common.{IfOk, IfErr, length, ◌==◌, sym, ◌∙◌, subst}
+use Rattle.std.proofs.Common.{IfOk, sym, subst}
 use Rattle.mm_parse_unit.specs.Reading.{GoesOn}
 use Rattle.mm_parse_unit.proofs.Faults.{goes_on_tree, goes_on_fault}
 use Rattle.mm_parse_unit.proofs.goes_on.Goals.{in-Ok, in-Err-Fault, in-Err-NoMemory}

@@ -1,4 +1,4 @@
-use Rattle.std.proofs.Common.{[], ◌∷◌, sym, ◌∙◌, subst}
+use Rattle.std.proofs.Common.{subst}
 use Rattle.mm_grammar.specs.Grammar.{name, alt}
 use Rattle.mm_syntax.specs.Rules.{decl, void_type, number_type, after_type, after_class_name}
 use Rattle.mm_cursor.specs.Cursor.{Answers}

@@ -1,4 +1,4 @@
-use Rattle.std.proofs.Common.{rules, ◌≡◌, true, false, ap, ◌∙◌, arith}
+use Rattle.std.proofs.Common.{ap, ◌∙◌, arith}
 use Rattle.mm_grammar.specs.Grammar.{name}
 use Rattle.mm_syntax.specs.Rules.{unit, decl}
 use Rattle.mm_cursor.proofs.Steps.{err}
