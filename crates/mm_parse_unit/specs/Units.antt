@@ -1,5 +1,5 @@
 -- What a unit is, its two limits, and the first syntax fault. Own.
-use Rattle.std.specs.Prelude.{◌≡◌, ℕ, ◌<◌, ◌≤◌, ◌^◌, List, [], ◌∷◌, ◌++◌, ◌⊎◌, take, Result, Ok, Err}
+use Rattle.std.specs.Prelude.{◌≡◌, ℕ, ◌≤◌, ◌^◌, List, [], ◌∷◌, ◌++◌, ◌⊎◌, take, Result, Ok, Err}
 use Rattle.mm_grammar.specs.Grammar.{name, Spells, Front}
 use Rattle.mm_base.specs.declared.code.Code.{Code}
 use Rattle.mm_base.specs.declared.place.Place.{Place}
