@@ -1,20 +1,14 @@
 -- Which answers are given, by the way in which the linking ended.
 use Rattle.std.proofs.Common.{◌≡◌, ◌⊎◌, ℕ, ◌+◌, List, [], length, Option, Some, None, refl, sym, ap, ◌∙◌, subst, inl, inr, arith}
 use Rattle.std.specs.Prelude.{codes}
-use Rattle.std.specs.Option.{MatchOption}
 use Rattle.std.proofs.lemmas.List.{take_all}
-use Rattle.mm_base.specs.Outside.{Contents, RoseBy, grown}
+use Rattle.mm_base.specs.Outside.{Contents, grown}
 use Rattle.mm_base.proofs.Grown.{grown_nil}
-use Rattle.mm_token.specs.Tokens.{byte_limit}
 use Rattle.mm_check_unit.specs.declared.first.Stmt.{Stmt}
 use Rattle.mm_top.specs.declared.link.Ending.{Ending}
 use Rattle.mm_top.specs.declared.link.Ending.TheVariants as ending
 use Rattle.mm_top.specs.Headline.{FilesSeen, SinkSeen, FilesFailed, SinkFailed, IsSame, Grew, GrewFront, IsSound, Fault, IsFaulty, IsAbsent, IsLong, Due, Linked, fault_message, message_of, status_of, usage_message, IsMessage, for_no_command, for_file, Says, Reports, Answers}
 use Rattle.mm_top.proofs.Told.{Told, is_sound, is_faulty, is_absent, is_long, is_none, Tells, one_telling, sound_tells, fault_tells, absent_tells, long_tells}
-
--- what is told of the files
-told : (P : Contents → Type 0) (Q : Type 0) (held : Option Contents) (h : Contents) → held ≡ Some h → MatchOption held Q P → P h
-told P Q held h e m = let F : Option Contents → Type 0 = λ o. MatchOption o Q P in subst F e m
 
 same_name : (asked : Option (List ℕ)) (a b : List ℕ) → asked ≡ Some a → asked ≡ Some b → a ≡ b
 same_name asked a b e f = let g : Some a ≡ Some b = sym e ∙ f in cc
@@ -43,14 +37,14 @@ Matches e out v = (status_of e ≡ status_for v) ⊎ ((status_for v ≡ 0) × Si
 
 -- what an end tells, where no read failed and the files tell what they hold
 case_of : (e : Ending) (name : List ℕ) (files : FilesSeen) (out : SinkSeen) (h : Contents) → files.held ≡ Some h → Linked e name files out → (FilesFailed files → ⊥) → (Tells h name (end_told e) × Matches e out (end_told e)) ⊎ (e ≡ ending.NoMemory)
-case_of ending.Done name files out h e l no_read = inl (sound_tells h name l.1.0 (told (λ h. IsSound h name l.1.0) (Unit {0}) files.held h e l.1.2), inl refl)
+case_of ending.Done name files out h e l no_read = inl (sound_tells h name l.1.0 (subst (λ o. IsSound o name l.1.0) e l.1.2), inl refl)
 case_of (ending.Fault code place file) name files out h e l no_read =
     let f : Fault = record { code = code; place = place; file = file } in
-    inl (fault_tells h name f (told (λ h. IsFaulty h name f) (Unit {0}) files.held h e l.1), inl refl)
-case_of (ending.Absent file) name files out h e l no_read = inl (absent_tells h name file (told (λ h. IsAbsent h name file) (FilesFailed files) files.held h e l.1), inl refl)
-case_of (ending.ReadFailed file) name files out h e l no_read = absurd (no_read l.1)
-case_of (ending.TooLong file) name files out h e l no_read = inl (long_tells h name file (told (λ h. IsLong h name file) (RoseBy (byte_limit + 1) files.drawn files.drawn') files.held h e l.1), inl refl)
-case_of ending.WriteFailed name files out h e l no_read = inl (sound_tells h name l.1.0 (told (λ h. IsSound h name l.1.0) (Unit {0}) files.held h e l.1.2), inr (refl, l.3))
+    inl (fault_tells h name f (subst (λ o. IsFaulty o name f) e l.1), inl refl)
+case_of (ending.Absent file) name files out h e l no_read = inl (absent_tells h name file (subst (λ o. IsAbsent o name file) e l.1), inl refl)
+case_of (ending.ReadFailed file) name files out h e l no_read = absurd (no_read l.2)
+case_of (ending.TooLong file) name files out h e l no_read = inl (long_tells h name file (subst (λ o. IsLong o name file) e l.1), inl refl)
+case_of ending.WriteFailed name files out h e l no_read = inl (sound_tells h name l.1.0 (subst (λ o. IsSound o name l.1.0) e l.1.2), inr (refl, l.3))
 case_of ending.NoMemory name files out h e l no_read = inr refl
 
 -- the status is that of what is told, or memory ran out
@@ -73,7 +67,7 @@ fault_end ending.WriteFailed f t = absurd (let x : ⊥ = cc in x)
 fault_end ending.NoMemory f t = absurd (let x : ⊥ = cc in x)
 
 -- a unit's first fault is said, or memory ran out
-exact_fault : (e : Ending) (name : List ℕ) (files : FilesSeen) (out err : SinkSeen) (h : Contents) (status : ℕ) (f : Fault) → files.held ≡ Some h → Linked e name files out → status ≡ status_of e → Says (message_of e) err → IsFaulty h name f → (FilesFailed files → ⊥) → ((status ≡ 1) × Says (fault_message f.code f.place f.file) err) ⊎ (status ≡ 9)
+exact_fault : (e : Ending) (name : List ℕ) (files : FilesSeen) (out err : SinkSeen) (h : Contents) (status : ℕ) (f : Fault) → files.held ≡ Some h → Linked e name files out → status ≡ status_of e → Says (message_of e) err → IsFaulty (Some h) name f → (FilesFailed files → ⊥) → ((status ≡ 1) × Says (fault_message f.code f.place f.file) err) ⊎ (status ≡ 9)
 exact_fault e name files out err h status f held l s says is no_read = by (case_of e name files out h held l no_read)
   where
     by : (Tells h name (end_told e) × Matches e out (end_told e)) ⊎ (e ≡ ending.NoMemory) → ((status ≡ 1) × Says (fault_message f.code f.place f.file) err) ⊎ (status ≡ 9)
@@ -156,16 +150,16 @@ module _ (status : ℕ) (asked : Option (List ℕ)) (files : FilesSeen) (out err
     linked : (other : List ℕ) → asked ≡ Some other → Linked e other files out
     linked other f = subst (λ n. Linked e n files out) (same_name asked name other a f) l
 
-    is_complete : (h : Contents) (other : List ℕ) (ss : List Stmt) → files.held ≡ Some h → asked ≡ Some other → IsSound h other ss → (FilesFailed files → ⊥) → (SinkFailed out → ⊥) → (status ≡ 0) ⊎ (status ≡ 9)
+    is_complete : (h : Contents) (other : List ℕ) (ss : List Stmt) → files.held ≡ Some h → asked ≡ Some other → IsSound (Some h) other ss → (FilesFailed files → ⊥) → (SinkFailed out → ⊥) → (status ≡ 0) ⊎ (status ≡ 9)
     is_complete h other ss held f x no_read no_write = exactly e other files out h status held (linked other f) s is_sound (sound_tells h other ss x) no_read (λ z. no_write)
 
-    is_refused : (h : Contents) (other : List ℕ) (g : Fault) → files.held ≡ Some h → asked ≡ Some other → IsFaulty h other g → (FilesFailed files → ⊥) → ((status ≡ 1) × Says (fault_message g.code g.place g.file) err) ⊎ (status ≡ 9)
+    is_refused : (h : Contents) (other : List ℕ) (g : Fault) → files.held ≡ Some h → asked ≡ Some other → IsFaulty (Some h) other g → (FilesFailed files → ⊥) → ((status ≡ 1) × Says (fault_message g.code g.place g.file) err) ⊎ (status ≡ 9)
     is_refused h other g held f x no_read = exact_fault e other files out err h status g held (linked other f) s says x no_read
 
-    is_past : (h : Contents) (other file : List ℕ) → files.held ≡ Some h → asked ≡ Some other → IsLong h other file → (FilesFailed files → ⊥) → (status ≡ 13) ⊎ (status ≡ 9)
+    is_past : (h : Contents) (other file : List ℕ) → files.held ≡ Some h → asked ≡ Some other → IsLong (Some h) other file → (FilesFailed files → ⊥) → (status ≡ 13) ⊎ (status ≡ 9)
     is_past h other file held f x no_read = exactly e other files out h status held (linked other f) s is_long (long_tells h other file x) no_read (λ z failed. omega (arith, z))
 
-    is_missing : (h : Contents) (other file : List ℕ) → files.held ≡ Some h → asked ≡ Some other → IsAbsent h other file → (FilesFailed files → ⊥) → (status ≡ 3) ⊎ (status ≡ 9)
+    is_missing : (h : Contents) (other file : List ℕ) → files.held ≡ Some h → asked ≡ Some other → IsAbsent (Some h) other file → (FilesFailed files → ⊥) → (status ≡ 3) ⊎ (status ≡ 9)
     is_missing h other file held f x no_read = exactly e other files out h status held (linked other f) s is_absent (absent_tells h other file x) no_read (λ z failed. omega (arith, z))
 
     is_command : asked ≡ None → (status ≡ 2) ⊎ (status ≡ 9)
@@ -216,7 +210,7 @@ module _ (status : ℕ) (asked : Option (List ℕ)) (files : FilesSeen) (out err
     done = λ h. absurd (omega (arith, s, h));
     fault = λ h. absurd (omega (arith, s, h));
     usage = λ h. absurd (omega (arith, s, h));
-    unread = λ _. (name, a, l.0, file, inl (l.1, says));
+    unread = λ _. (name, a, l.0, file, inl (l.1, l.2, says));
     unwritten = λ h. absurd (omega (arith, s, h));
     long = λ h. absurd (omega (arith, s, h));
     no_memory = λ h. absurd (omega (arith, s, h));
@@ -231,7 +225,7 @@ module _ (status : ℕ) (asked : Option (List ℕ)) (files : FilesSeen) (out err
     done = λ h. absurd (omega (arith, s, h));
     fault = λ h. absurd (omega (arith, s, h));
     usage = λ h. absurd (omega (arith, s, h));
-    unread = λ _. (name, a, l.0, file, inr (l.1, says));
+    unread = λ _. (name, a, l.0, file, inr (l.1, l.2, says));
     unwritten = λ h. absurd (omega (arith, s, h));
     long = λ h. absurd (omega (arith, s, h));
     no_memory = λ h. absurd (omega (arith, s, h));
@@ -248,7 +242,7 @@ module _ (status : ℕ) (asked : Option (List ℕ)) (files : FilesSeen) (out err
     usage = λ h. absurd (omega (arith, s, h));
     unread = λ h. absurd (omega (arith, s, h));
     unwritten = λ h. absurd (omega (arith, s, h));
-    long = λ _. (name, a, l.0, file, says, l.1);
+    long = λ _. (name, a, l.0, file, says, l.1, l.2);
     no_memory = λ h. absurd (omega (arith, s, h));
     only = inr (inr (inr (inr (inr (inl s)))));
     complete = is_complete (ending.TooLong file) name a l s says;

@@ -1,6 +1,6 @@
 -- How a linking ends, and what is due.
 use Rattle.std.proofs.Common.{◌≡◌, ℕ, ◌≤◌, ◌⊎◌, ◌^◌, List, Option, Some, None, refl, sym, ◌∙◌, subst, inl, inr, arith}
-use Rattle.std.specs.Prelude.{IfSome, MatchOption, ◌+◌}
+use Rattle.std.specs.Prelude.{IfNone, MatchOption, ◌+◌}
 use Rattle.mm_base.specs.Outside.{Contents, Rose, RoseBy}
 use Rattle.mm_base.specs.declared.code.Code.{Code}
 use Rattle.mm_base.specs.declared.place.Place.{Place}
@@ -12,7 +12,7 @@ use Rattle.mm_lower.specs.Lowered.{lowered_program, reach_stmts}
 use Rattle.mm_lower.proofs.Fits.{well_formed}
 use Rattle.mm_lower.proofs.Programs.{translates}
 use Rattle.mm_token.specs.declared.token.Tokens.{Tokens}
-use Rattle.mm_token.specs.declared.token.TokenEnd.TheVariants.{Absent, TooLong, Fault}
+use Rattle.mm_token.specs.declared.token.TokenEnd.TheVariants.{Absent, Failed, TooLong, Fault}
 use Rattle.mm_token.specs.Tokens.{byte_limit, unit_start, Reads, IsRefused}
 use Rattle.mm_token.specs.Causes.{HasCause}
 use Rattle.mm_syntax.specs.declared.decl.Unit.{Unit as UnitTree}
@@ -23,7 +23,7 @@ use Rattle.mm_check_unit.specs.First.{checked, statements_of}
 use Rattle.mm_check_unit.specs.Laws.{IsBuilt}
 use Rattle.mm_top.specs.declared.link.Ending.{Ending}
 use Rattle.mm_top.specs.declared.link.Ending.TheVariants as ending
-use Rattle.mm_top.specs.Headline.{FilesSeen, IsSound, IsFaulty, IsAbsent, IsLong, IsDue, Due, file_of, n0, p5}
+use Rattle.mm_top.specs.Headline.{FilesSeen, IsFaulty, IsDue, Due, file_of, n0, p5}
 use Rattle.mm_top.specs.Linking.{Ends, EndsFor, EndsForTree, IsFirst, AreFirst}
 use Rattle.mm_check_unit.proofs.Built.{built_is_first}
 use Rattle.mm_check_unit.proofs.Valid.{first_is_valid}
@@ -32,41 +32,33 @@ use Rattle.mm_top.proofs.FewLocals.{few_locals}
 
 -- ---- without tokens
 
-lacking : (held : Option Contents) (name file : List ℕ) (place : Place) (a b c d : ℕ) → IsRefused held name (Absent file place) → HasCause held (Absent file place) a b c d → MatchOption held (Rose a b) (λ h. IsAbsent h name file)
-lacking None name file place a b c d r why = why
-lacking (Some h) name file place a b c d r why = (place, r)
+-- what is asked of files that don't tell what they hold
+untold : (held : Option Contents) (P : Type 0) → MatchOption held P (λ _. Unit {0}) → IfNone held P
+untold None P why = why
+untold (Some h) P why = tt
 
 pub absent_end : (f : FilesSeen) (name file : List ℕ) (place : Place) → IsRefused f.held name (Absent file place) → HasCause f.held (Absent file place) f.faults f.faults' f.drawn f.drawn' → Ends (ending.Absent file) name f
-absent_end f name file place r why = λ out same. (same, lacking f.held name file place f.faults f.faults' f.drawn f.drawn' r why)
-
-past : (held : Option Contents) (name file : List ℕ) (a b c d : ℕ) → IsRefused held name (TooLong file) → HasCause held (TooLong file) a b c d → MatchOption held (RoseBy (byte_limit + 1) c d) (λ h. IsLong h name file)
-past None name file a b c d r why = why
-past (Some h) name file a b c d r why = r
+absent_end f name file place r why = λ out same. (same, (place, r), untold f.held (Rose f.faults f.faults') why)
 
 pub long_end : (f : FilesSeen) (name file : List ℕ) → IsRefused f.held name (TooLong file) → HasCause f.held (TooLong file) f.faults f.faults' f.drawn f.drawn' → Ends (ending.TooLong file) name f
-long_end f name file r why = λ out same. (same, past f.held name file f.faults f.faults' f.drawn f.drawn' r why)
+long_end f name file r why = λ out same. (same, r, untold f.held (RoseBy (byte_limit + 1) f.drawn f.drawn') why)
 
-lexical : (held : Option Contents) (name file : List ℕ) (code : Code) (place : Place) → IsRefused held name (Fault code place file) → IfSome held (λ h. IsFaulty h name (record { code = code; place = place; file = file }))
-lexical None name file code place r = tt
-lexical (Some h) name file code place r = inl r
+pub failed_end : (f : FilesSeen) (name file : List ℕ) → IsRefused f.held name (Failed file) → HasCause f.held (Failed file) f.faults f.faults' f.drawn f.drawn' → Ends (ending.ReadFailed file) name f
+failed_end f name file r why = λ out same. (same, r, why)
 
 pub lexical_end : (f : FilesSeen) (name file : List ℕ) (code : Code) (place : Place) → IsRefused f.held name (Fault code place file) → Ends (ending.Fault code place file) name f
-lexical_end f name file code place r = λ out same. (same, lexical f.held name file code place r)
+lexical_end f name file code place r = λ out same. (same, inl r)
 
 -- ---- with tokens
 
 module _ (name : List ℕ) (tokens : Tokens) where
   -- the unit has this first fault, whatever the files are that give its tokens
   abbrev IsFault : Code → Place → List ℕ → Type 0
-  IsFault code place file = (h : Contents) → Reads (Some h) name tokens → IsFaulty h name (record { code = code; place = place; file = file })
-
-  told : (held : Option Contents) (code : Code) (place : Place) (file : List ℕ) → IsFault code place file → Reads held name tokens → IfSome held (λ h. IsFaulty h name (record { code = code; place = place; file = file }))
-  told None code place file f r = tt
-  told (Some h) code place file f r = f h r
+  IsFault code place file = (held : Option Contents) → Reads held name tokens → IsFaulty held name (record { code = code; place = place; file = file })
 
   -- an end that names this fault, or want of memory
   fault_end : (e : Ending) (code : Code) (place : Place) (file : List ℕ) → IsFault code place file → (e ≡ ending.Fault code place file) ⊎ (e ≡ ending.NoMemory) → EndsFor e name tokens
-  fault_end e code place file f (inl is) = subst (λ x. EndsFor x name tokens) (sym is) (λ files r out same. (same, told files.held code place file f r))
+  fault_end e code place file f (inl is) = subst (λ x. EndsFor x name tokens) (sym is) (λ files r out same. (same, f files.held r))
   fault_end e code place file f (inr is) = subst (λ x. EndsFor x name tokens) (sym is) (λ files r out same. inl same)
 
   pub syntax_end : (e : Ending) (code : Code) (place : Place) → IsSyntaxFault tokens.list tokens.end code place → (e ≡ ending.Fault code place (file_of tokens.files place)) ⊎ (e ≡ ending.NoMemory) → EndsFor e name tokens
@@ -89,13 +81,9 @@ is_first tree ss b s = record { built = b; main = first_has_main tree ss s; stat
 pub first_valid : (tokens : Tokens) (ss : List Stmt) → AreFirst tokens ss → AreValidStmts (checked ss)
 first_valid tokens ss (tree, t, f) = first_is_valid tree ss f.statements
 
-sound : (held : Option Contents) (name : List ℕ) (tokens : Tokens) (ss : List Stmt) → Reads held name tokens → AreFirst tokens ss → IfSome held (λ h. IsSound h name ss)
-sound None name tokens ss r f = tt
-sound (Some h) name tokens ss r (tree, t, f) = record { tokens = tokens; tree = tree; read = record { reads = r; is_tree = t }; built = f.built; main = f.main; statements = f.statements }
-
 -- what was written is due
 pub due : (held : Option Contents) (name text : List ℕ) (tokens : Tokens) (ss : List Stmt) → Reads held name tokens → AreFirst tokens ss → IsDue ss text → Due held name text
-due held name text tokens ss r f d = (ss, d, sound held name tokens ss r f)
+due held name text tokens ss r (tree, t, f) d = (ss, d, record { tokens = tokens; tree = tree; read = record { reads = r; is_tree = t }; built = f.built; main = f.main; statements = f.statements })
 
 -- the program of statements keeps the rules
 pub stmts_fit : (ss : List Stmt) (p : c.Program) → AreValidStmts (checked ss) → p ≡ lowered_program (checked ss) → IsWellFormed p

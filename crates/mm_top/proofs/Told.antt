@@ -65,14 +65,14 @@ module _ (h : Contents) (name : List ℕ) where
   pub data Case : Type 0 where
     refused : (e : TokenEnd) → IsByContents e → IsRefused (Some h) name e → Case
     faulty : (t : Tokens) (code : Code) (place : Place) → Reads (Some h) name t → IsSyntaxFault t.list t.end code place → Case
-    treed : (t : Tokens) (tree : UnitTree) → IsRead h name t tree → Case
+    treed : (t : Tokens) (tree : UnitTree) → IsRead (Some h) name t tree → Case
 
   abbrev pub told : Case → Told
   told (refused e c r) = by_refusal e
   told (faulty t code place r f) = at_place t.files code place
   told (treed t tree r) = by_tree name t.files tree
 
-  fault_or_tree : (t u : Tokens) (tree : UnitTree) (code : Code) (place : Place) → Reads (Some h) name t → IsSyntaxFault t.list t.end code place → IsRead h name u tree → ⊥
+  fault_or_tree : (t u : Tokens) (tree : UnitTree) (code : Code) (place : Place) → Reads (Some h) name t → IsSyntaxFault t.list t.end code place → IsRead (Some h) name u tree → ⊥
   fault_or_tree t u tree code place r f x =
       let s = tokens_once h name t u r x.reads in
       not_both t.list tree.decls t.end code place (subst (λ l. IsUnit l tree.decls) (sym s.list) x.is_tree.is_unit) f
@@ -84,7 +84,7 @@ module _ (h : Contents) (name : List ℕ) where
       let e = one_fault t.list t.end c d p q f g2 in
       ap is_faulty (same_faults c d p q (file_of t.files p) (file_of u.files q) e.0 e.1 (ap₂ file_of s.files e.1))
 
-  one_tree : (t u : Tokens) (a b : UnitTree) → SameTokens t u → IsRead h name t a → IsRead h name u b → a ≡ b
+  one_tree : (t u : Tokens) (a b : UnitTree) → SameTokens t u → IsRead (Some h) name t a → IsRead (Some h) name u b → a ≡ b
   one_tree t u a b s x y =
       same_trees a.decls b.decls a.place b.place a.files b.files a.bytes b.bytes
       (one_unit u.list a.decls b.decls (subst (λ l. IsUnit l a.decls) s.list x.is_tree.is_unit) y.is_tree.is_unit)
@@ -114,7 +114,7 @@ module _ (h : Contents) (name : List ℕ) where
   built_tells : (tree : UnitTree) (files : List (List ℕ)) (o : Option (List Stmt)) → IsBuilt tree → statements_of tree ≡ o → by_tree name files tree ≡ by_statements name o
   built_tells tree files o b s = ap (by_first name files tree) b ∙ ap (by_statements name) s
 
-  pub sound_tells : (ss : List Stmt) → IsSound h name ss → Tells is_sound
+  pub sound_tells : (ss : List Stmt) → IsSound (Some h) name ss → Tells is_sound
   sound_tells ss s = (treed s.tokens s.tree s.read, built_tells s.tree s.tokens.files (Some ss) s.built s.statements)
 
   -- a fault whose parts are these
@@ -125,14 +125,14 @@ module _ (h : Contents) (name : List ℕ) where
   no_statements tree None s n = refl
   no_statements tree (Some ss) s n = absurd (n (first_has_main tree ss s))
 
-  pub fault_tells : (f : Fault) → IsFaulty h name f → Tells (is_faulty f)
+  pub fault_tells : (f : Fault) → IsFaulty (Some h) name f → Tells (is_faulty f)
   fault_tells f (inl r) = (refused (token_end.Fault f.code f.place f.file) tt r, refl)
   fault_tells f (inr (inl (t, r, s, n))) = (faulty t f.code f.place r s, fault_is f f.code f.place (file_of t.files f.place) refl refl n)
   fault_tells f (inr (inr (inl (t, tree, r, first, c, n)))) = (treed t tree r, ap (by_first name t.files tree) first ∙ fault_is f n0 f.place (file_of t.files f.place) c refl n)
   fault_tells f (inr (inr (inr (t, tree, r, b, m, c, p, n)))) = (treed t tree r, built_tells tree t.files None b (no_statements tree (statements_of tree) refl m) ∙ fault_is f p5 unit_start name c p n)
 
-  pub absent_tells : (file : List ℕ) → IsAbsent h name file → Tells is_absent
+  pub absent_tells : (file : List ℕ) → IsAbsent (Some h) name file → Tells is_absent
   absent_tells file (place, r) = (refused (token_end.Absent file place) tt r, refl)
 
-  pub long_tells : (file : List ℕ) → IsLong h name file → Tells is_long
+  pub long_tells : (file : List ℕ) → IsLong (Some h) name file → Tells is_long
   long_tells file r = (refused (token_end.TooLong file) tt r, refl)

@@ -1,5 +1,5 @@
 -- What `link` promises. (Own.)
-use Rattle.std.specs.Prelude.{◌≡◌, ◌⊎◌, ℕ, ◌+◌, ◌==◌, if◌then◌else◌, List, [], ◌∷◌, ◌++◌, get_or, Option, Some, None, IfSome, MatchOption, codes}
+use Rattle.std.specs.Prelude.{◌≡◌, ◌⊎◌, ℕ, ◌+◌, ◌==◌, if◌then◌else◌, List, [], ◌∷◌, ◌++◌, get_or, Option, Some, None, IfNone, codes}
 use Rattle.std.specs.Fmt.{decimal}
 use Rattle.mm_base.specs.Outside.{Contents, Rose, RoseBy, grown, PutsFront}
 use Rattle.mm_core.specs.Tree.{program_of}
@@ -57,16 +57,16 @@ GrewFront text s = PutsFront text s.got s.got'
 
 -- ---- the units
 
--- The files hold a unit under the name, with these tokens and this tree.
-pub record IsRead (h : Contents) (name : List ℕ) (tokens : Tokens) (tree : UnitTree) : Type 0 where
-  pub reads : Reads (Some h) name tokens
+-- The files give a unit under the name, with these tokens and this tree. Files that don't tell what they hold give some.
+pub record IsRead (held : Option Contents) (name : List ℕ) (tokens : Tokens) (tree : UnitTree) : Type 0 where
+  pub reads : Reads held name tokens
   pub is_tree : IsTreeOf tokens tree
 
--- The files hold a unit of these statements under the name, whose trees are all built, and which defines `int main()`.
-pub record IsSound (h : Contents) (name : List ℕ) (ss : List Stmt) : Type 0 where
+-- The files give a unit of these statements under the name, whose trees are all built, and which defines `int main()`.
+pub record IsSound (held : Option Contents) (name : List ℕ) (ss : List Stmt) : Type 0 where
   pub tokens : Tokens
   pub tree : UnitTree
-  pub read : IsRead h name tokens tree
+  pub read : IsRead held name tokens tree
   pub built : IsBuilt tree
   pub main : DefinesMain tree
   pub statements : statements_of tree ≡ Some ss
@@ -91,31 +91,34 @@ abbrev pub file_of : List (List ℕ) → Place → List ℕ
 file_of files place = get_or files place.file []
 
 -- The text, with its headers, has a first lexical fault.
-abbrev pub IsLexical : Contents → List ℕ → Fault → Type 0
-IsLexical h name f = IsRefused (Some h) name (token_end.Fault f.code f.place f.file)
+abbrev pub IsLexical : Option Contents → List ℕ → Fault → Type 0
+IsLexical held name f = IsRefused held name (token_end.Fault f.code f.place f.file)
 
 -- The tokens have a first syntax fault.
-abbrev pub IsSyntactic : Contents → List ℕ → Fault → Type 0
-IsSyntactic h name f = (tokens : Tokens) × Reads (Some h) name tokens × IsSyntaxFault tokens.list tokens.end f.code f.place × (f.file ≡ file_of tokens.files f.place)
+abbrev pub IsSyntactic : Option Contents → List ℕ → Fault → Type 0
+IsSyntactic held name f = (tokens : Tokens) × Reads held name tokens × IsSyntaxFault tokens.list tokens.end f.code f.place × (f.file ≡ file_of tokens.files f.place)
 
 -- A tree stands in the unit whose form isn't built, the first of them here.
-abbrev pub IsUnbuilt : Contents → List ℕ → Fault → Type 0
-IsUnbuilt h name f = (tokens : Tokens) × (tree : UnitTree) × IsRead h name tokens tree × (first_of all_forms (shown_unit tree).marks ≡ Some f.place) × (f.code ≡ n0) × (f.file ≡ file_of tokens.files f.place)
+abbrev pub IsUnbuilt : Option Contents → List ℕ → Fault → Type 0
+IsUnbuilt held name f = (tokens : Tokens) × (tree : UnitTree) × IsRead held name tokens tree × (first_of all_forms (shown_unit tree).marks ≡ Some f.place) × (f.code ≡ n0) × (f.file ≡ file_of tokens.files f.place)
 
 -- Each tree is built, and no `int main()` is defined; at 1:1 of the unit.
-abbrev pub IsMainless : Contents → List ℕ → Fault → Type 0
-IsMainless h name f = (tokens : Tokens) × (tree : UnitTree) × IsRead h name tokens tree × IsBuilt tree × (DefinesMain tree → ⊥) × (f.code ≡ p5) × (f.place ≡ unit_start) × (f.file ≡ name)
+abbrev pub IsMainless : Option Contents → List ℕ → Fault → Type 0
+IsMainless held name f = (tokens : Tokens) × (tree : UnitTree) × IsRead held name tokens tree × IsBuilt tree × (DefinesMain tree → ⊥) × (f.code ≡ p5) × (f.place ≡ unit_start) × (f.file ≡ name)
 
 -- The unit's first listed fault, in the order in which they count.
-abbrev pub IsFaulty : Contents → List ℕ → Fault → Type 0
-IsFaulty h name f = IsLexical h name f ⊎ IsSyntactic h name f ⊎ IsUnbuilt h name f ⊎ IsMainless h name f
+abbrev pub IsFaulty : Option Contents → List ℕ → Fault → Type 0
+IsFaulty held name f = IsLexical held name f ⊎ IsSyntactic held name f ⊎ IsUnbuilt held name f ⊎ IsMainless held name f
 
--- The unit, or a header of this name, isn't held; one of them is past its limit.
-abbrev pub IsAbsent : Contents → List ℕ → List ℕ → Type 0
-IsAbsent h name file = (place : Place) × IsRefused (Some h) name (token_end.Absent file place)
+-- The unit's file, or a header, is the one of this name that isn't held; that is past its limit; whose read fails.
+abbrev pub IsAbsent : Option Contents → List ℕ → List ℕ → Type 0
+IsAbsent held name file = (place : Place) × IsRefused held name (token_end.Absent file place)
 
-abbrev pub IsLong : Contents → List ℕ → List ℕ → Type 0
-IsLong h name file = IsRefused (Some h) name (token_end.TooLong file)
+abbrev pub IsLong : Option Contents → List ℕ → List ℕ → Type 0
+IsLong held name file = IsRefused held name (token_end.TooLong file)
+
+abbrev pub IsUnread : Option Contents → List ℕ → List ℕ → Type 0
+IsUnread held name file = IsRefused held name (token_end.Failed file)
 
 -- The text spells a C program that, for every input and at every bound on the steps, ends, traps or goes on as the
 -- unit does, puts the same numbers, and is never stuck.
@@ -124,19 +127,19 @@ pub record IsDue (ss : List Stmt) (text : List ℕ) : Type 0 where
   pub spells : SpellsProgram text program
   pub translates : Translates (program_of (checked ss)) program
 
--- The C text is due for a unit, which is the one that the files tell, where they tell one.
+-- The C text is due for the unit that the files give.
 abbrev pub Due : Option Contents → List ℕ → List ℕ → Type 0
-Due held name text = (ss : List Stmt) × IsDue ss text × IfSome held (λ h. IsSound h name ss)
+Due held name text = (ss : List Stmt) × IsDue ss text × IsSound held name ss
 
 -- ---- how the linking of a file ends
 
 -- What each end says of the files and the output.
 abbrev pub Linked : Ending → List ℕ → FilesSeen → SinkSeen → Type 0
 Linked ending.Done name files out = (text : List ℕ) × Due files.held name text × Grew text out
-Linked (ending.Fault code place file) name files out = IsSame out × IfSome files.held (λ h. IsFaulty h name (record { code = code; place = place; file = file }))
-Linked (ending.Absent file) name files out = IsSame out × MatchOption files.held (FilesFailed files) (λ h. IsAbsent h name file)
-Linked (ending.ReadFailed file) name files out = IsSame out × FilesFailed files
-Linked (ending.TooLong file) name files out = IsSame out × MatchOption files.held (RoseBy (byte_limit + 1) files.drawn files.drawn') (λ h. IsLong h name file)
+Linked (ending.Fault code place file) name files out = IsSame out × IsFaulty files.held name (record { code = code; place = place; file = file })
+Linked (ending.Absent file) name files out = IsSame out × IsAbsent files.held name file × IfNone files.held (FilesFailed files)
+Linked (ending.ReadFailed file) name files out = IsSame out × IsUnread files.held name file × FilesFailed files
+Linked (ending.TooLong file) name files out = IsSame out × IsLong files.held name file × IfNone files.held (RoseBy (byte_limit + 1) files.drawn files.drawn')
 Linked ending.WriteFailed name files out = (text : List ℕ) × Due files.held name text × GrewFront text out × SinkFailed out
 Linked ending.NoMemory name files out = IsSame out ⊎ ((text : List ℕ) × Due files.held name text × GrewFront text out)
 
@@ -197,25 +200,25 @@ pub record Answers (status : ℕ) (asked : Option (List ℕ)) (files : FilesSeen
   -- The headline: after 0, out grew by exactly a C text that is due, and nothing was said.
   pub done : status ≡ 0 → (name : List ℕ) × (asked ≡ Some name) × (text : List ℕ) × Due files.held name text × Grew text out × IsSame err
   -- 1: the unit has a listed fault, and this is the first, at its place in the file where it stands
-  pub fault : status ≡ 1 → (name : List ℕ) × (asked ≡ Some name) × (f : Fault) × IfSome files.held (λ h. IsFaulty h name f) × IsSame out × Says (fault_message f.code f.place f.file) err
+  pub fault : status ≡ 1 → (name : List ℕ) × (asked ≡ Some name) × (f : Fault) × IsFaulty files.held name f × IsSame out × Says (fault_message f.code f.place f.file) err
   -- 2: the words are no command
   pub usage : status ≡ 2 → (asked ≡ None) × IsSame out × Says usage_message err
-  -- 3: the unit's file or a header isn't there, or a read failed
+  -- 3: the unit's file or a header isn't there, or its read failed; a file that isn't told to be absent counts as a fault
   pub unread : status ≡ 3 → (name : List ℕ) × (asked ≡ Some name) × IsSame out × (file : List ℕ)
-      × ((MatchOption files.held (FilesFailed files) (λ h. IsAbsent h name file) × Says (message_of (ending.Absent file)) err) ⊎ (FilesFailed files × Says (message_of (ending.ReadFailed file)) err))
+      × ((IsAbsent files.held name file × IfNone files.held (FilesFailed files) × Says (message_of (ending.Absent file)) err) ⊎ (IsUnread files.held name file × FilesFailed files × Says (message_of (ending.ReadFailed file)) err))
   -- 4: a write failed, behind a front of the text that was due
   pub unwritten : status ≡ 4 → (name : List ℕ) × (asked ≡ Some name) × (text : List ℕ) × Due files.held name text × GrewFront text out × SinkFailed out × Says (message_of ending.WriteFailed) err
   -- 13: a file is past the limit
   pub long : status ≡ 13 → (name : List ℕ) × (asked ≡ Some name) × IsSame out × (file : List ℕ) × Says (message_of (ending.TooLong file)) err
-      × MatchOption files.held (RoseBy (byte_limit + 1) files.drawn files.drawn') (λ h. IsLong h name file)
+      × IsLong files.held name file × IfNone files.held (RoseBy (byte_limit + 1) files.drawn files.drawn')
   -- 9: memory ran out; out is as it was, or has a front of the text that was due, and err a front of a message
   pub no_memory : status ≡ 9 → (IsSame out ⊎ ((name : List ℕ) × (asked ≡ Some name) × (text : List ℕ) × Due files.held name text × GrewFront text out))
       × ((message : List ℕ) × (IsMessage asked message ⊎ (message ≡ codes "mmc: no memory\n")) × GrewFront message err)
   -- no other status is given
   pub only : (status ≡ 0) ⊎ (status ≡ 1) ⊎ (status ≡ 2) ⊎ (status ≡ 3) ⊎ (status ≡ 4) ⊎ (status ≡ 13) ⊎ (status ≡ 9)
   -- The other way, where files tell what they hold and have not failed, and out has not: each case has its status, or memory ran out.
-  pub complete : (h : Contents) (name : List ℕ) (ss : List Stmt) → files.held ≡ Some h → asked ≡ Some name → IsSound h name ss → (FilesFailed files → ⊥) → (SinkFailed out → ⊥) → (status ≡ 0) ⊎ (status ≡ 9)
-  pub refused : (h : Contents) (name : List ℕ) (f : Fault) → files.held ≡ Some h → asked ≡ Some name → IsFaulty h name f → (FilesFailed files → ⊥) → ((status ≡ 1) × Says (fault_message f.code f.place f.file) err) ⊎ (status ≡ 9)
-  pub past_limit : (h : Contents) (name file : List ℕ) → files.held ≡ Some h → asked ≡ Some name → IsLong h name file → (FilesFailed files → ⊥) → (status ≡ 13) ⊎ (status ≡ 9)
-  pub missing : (h : Contents) (name file : List ℕ) → files.held ≡ Some h → asked ≡ Some name → IsAbsent h name file → (FilesFailed files → ⊥) → (status ≡ 3) ⊎ (status ≡ 9)
+  pub complete : (h : Contents) (name : List ℕ) (ss : List Stmt) → files.held ≡ Some h → asked ≡ Some name → IsSound (Some h) name ss → (FilesFailed files → ⊥) → (SinkFailed out → ⊥) → (status ≡ 0) ⊎ (status ≡ 9)
+  pub refused : (h : Contents) (name : List ℕ) (f : Fault) → files.held ≡ Some h → asked ≡ Some name → IsFaulty (Some h) name f → (FilesFailed files → ⊥) → ((status ≡ 1) × Says (fault_message f.code f.place f.file) err) ⊎ (status ≡ 9)
+  pub past_limit : (h : Contents) (name file : List ℕ) → files.held ≡ Some h → asked ≡ Some name → IsLong (Some h) name file → (FilesFailed files → ⊥) → (status ≡ 13) ⊎ (status ≡ 9)
+  pub missing : (h : Contents) (name file : List ℕ) → files.held ≡ Some h → asked ≡ Some name → IsAbsent (Some h) name file → (FilesFailed files → ⊥) → (status ≡ 3) ⊎ (status ≡ 9)
   pub no_command : asked ≡ None → (status ≡ 2) ⊎ (status ≡ 9)

@@ -1,4 +1,4 @@
-use Rattle.mm_top.proofs.LinkLaws.{absent_end, long_end, lexical_end}
+use Rattle.mm_top.proofs.LinkLaws.{absent_end, long_end, failed_end, lexical_end}
 use Rattle.mm_top.proofs.link.read.Goals as goal
 
 pub returns-in-Err-Absent : goal.returns-in-Err-Absent
@@ -17,3 +17,9 @@ pub returns-in-Err-Fault : goal.returns-in-Err-Fault
 returns-in-Err-Fault g c =
     lexical_end (record { held = g.F.Files.held c.args.files.now; faults = g.F.Files.faults c.args.files.now; faults' = g.F.Files.faults c.get_tokens.new.files; drawn = g.F.Files.drawn c.args.files.now; drawn' = g.F.Files.drawn c.get_tokens.new.files })
     c.args.name.now c.in-Err-Fault.file c.in-Err-Fault.code c.in-Err-Fault.place (rw c.in-Err-Fault.field-0-is at c.in-Err-Fault.ensures.reads)
+
+pub returns-in-Err-Failed : goal.returns-in-Err-Failed
+returns-in-Err-Failed g c =
+    let e = c.in-Err-Failed.ensures in
+    failed_end (record { held = g.F.Files.held c.args.files.now; faults = g.F.Files.faults c.args.files.now; faults' = g.F.Files.faults c.get_tokens.new.files; drawn = g.F.Files.drawn c.args.files.now; drawn' = g.F.Files.drawn c.get_tokens.new.files })
+    c.args.name.now c.in-Err-Failed.file (rw c.in-Err-Failed.field-0-is at e.reads) (rw c.in-Err-Failed.field-0-is at e.causes)
