@@ -1,14 +1,14 @@
 // The first texts.
 
 ghost use Rattle.std.specs.Prelude.{◌≡◌, [], Some, None, IfOk, MatchOption, map};
-ghost use Rattle.mm_syntax.specs.Forms.{is_main, shown_type, is_type};
 ghost use Rattle.mm_check_unit.specs.First.{number_meant, with_number, meant, call_meant, run_meant, value_meant, return_meant, block_meant, meant_stmt, body_meant, fn_meant, decl_meant, statements_of};
 ghost use Rattle.mm_check_unit.specs.Parts.{sum_of, number_of, is_callee, stmt_of};
 
-use mm_syntax::decl::{Decl, DeclKind, FnDecl, FnDeclKind, Head, Unit};
-use mm_syntax::expr::{Expr, ExprKind, TypeName, TypeNameKind};
+use mm_syntax::decl::{Decl, DeclKind, FnDecl, FnDeclKind, Unit};
+use mm_syntax::expr::{Expr, ExprKind};
 use mm_syntax::name::{BinaryOperator, Number};
 use mm_syntax::stmt::{Stmt as StmtTree, StmtKind};
+use mm_syntax::walk::is_main_head;
 use sqlite_items::Items;
 use std::alloc::{AllocError, Global};
 
@@ -160,28 +160,11 @@ fn body(alloc: Global, tree: &StmtTree) -> Result<Option<Vec<Stmt>>, AllocError>
     }
 }
 
-fn is_int(tree: &TypeName) -> bool
-    ensures { result ≡ is_type (shown_type tree.now).built }
-{
-    matches!(&tree.kind, TypeNameKind::Int)
-}
-
-/// Whether it is `int main()`.
-fn is_main(tree: &Head) -> bool
-    ensures { result ≡ is_main tree.now }
-{
-    is_int(&tree.type_name)
-        && tree.mark.is_none()
-        && tree.name.text.as_str() == "main"
-        && !tree.params.has_void
-        && tree.params.list.is_empty()
-}
-
 fn function(alloc: Global, tree: &FnDecl) -> Result<Option<Vec<Stmt>>, AllocError>
     ensures { IfOk result (λ found. MatchOption found (fn_meant tree.now.kind ≡ None) (λ v. fn_meant tree.now.kind ≡ Some v.items)) }
 {
     match &tree.kind {
-        FnDeclKind::Definition(head, tree) if is_main(head) => body(alloc, tree),
+        FnDeclKind::Definition(head, tree) if is_main_head(head) => body(alloc, tree),
         _ => Ok(None),
     }
 }

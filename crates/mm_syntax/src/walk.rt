@@ -644,8 +644,8 @@ fn head(wanted: Forms, tree: &Head) -> Inside
     params(wanted, first, tree.params.list.as_slice())
 }
 
-/// Whether it is `int main()`.
-fn is_main_head(tree: &Head) -> bool
+/// Whether it is `int main()`, with nothing in the parentheses.
+pub fn is_main_head(tree: &Head) -> bool
     ensures { result ≡ is_main tree.now }
 {
     is_int(&tree.type_name)
