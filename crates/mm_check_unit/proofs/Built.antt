@@ -11,7 +11,7 @@ use Rattle.mm_syntax.specs.declared.decl.Decl.{Decl}
 use Rattle.mm_syntax.specs.declared.decl.DeclKind.{DeclKind}
 use Rattle.mm_syntax.specs.declared.decl.DeclKind.TheVariants as d
 use Rattle.mm_syntax.specs.declared.decl.Unit.{Unit as UnitTree}
-use Rattle.mm_syntax.specs.declared.walk.Form.TheVariants as form
+use Rattle.mm_syntax.specs.declared.form.Form.TheVariants as form
 use Rattle.mm_syntax.specs.declared.walk.Built.{Built}
 use Rattle.mm_syntax.specs.declared.walk.Built.TheVariants as built
 use Rattle.mm_syntax.specs.Forms.{Shown, is_built, only_if, is_block, is_main, function_built, unit_built, member_shown, shown_type, shown_stmt, param_at, param_shown, head_shown, body_shown, maybe_body, maybe_block, method_form, fn_shown, class_shown, decl_shown, shown_decl, shown_unit}

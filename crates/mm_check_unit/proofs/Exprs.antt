@@ -9,8 +9,8 @@ use Rattle.mm_syntax.specs.declared.name.BinaryOperator.{BinaryOperator}
 use Rattle.mm_syntax.specs.declared.name.BinaryOperator.TheVariants as operator
 use Rattle.mm_syntax.specs.declared.expr.ExprKind.{ExprKind, ExprKind-F, roll-ExprKind, map-ExprKind, fold-ExprKind, fold-roll-ExprKind}
 use Rattle.mm_syntax.specs.declared.expr.Expr.{Expr, Expr-F, roll-Expr, map-Expr, fold-roll-Expr, ind-Expr}
-use Rattle.mm_syntax.specs.declared.walk.Form.{Form}
-use Rattle.mm_syntax.specs.declared.walk.Form.TheVariants as form
+use Rattle.mm_syntax.specs.declared.form.Form.{Form}
+use Rattle.mm_syntax.specs.declared.form.Form.TheVariants as form
 use Rattle.mm_syntax.specs.declared.walk.Built.{Built}
 use Rattle.mm_syntax.specs.declared.walk.Built.TheVariants as built
 use Rattle.mm_syntax.specs.Forms.{Shown, of_form, plain, only_if, is_callee, is_sum, number_built, name_built, sum_built, make_form, unary_shown, call_shown, expr_shown, shown_expr}

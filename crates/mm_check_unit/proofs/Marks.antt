@@ -2,8 +2,8 @@
 use Rattle.std.proofs.Common.{◌≡◌, Bool, true, false, ◌&&◌, if◌then◌else◌, List, [], ◌∷◌, ◌++◌, Option, Some, None, refl, subst, map}
 use Rattle.std.specs.List.{flat_map}
 use Rattle.mm_base.specs.declared.place.Place.{Place}
-use Rattle.mm_syntax.specs.declared.walk.Form.{Form}
-use Rattle.mm_syntax.specs.declared.walk.Form.TheVariants as form
+use Rattle.mm_syntax.specs.declared.form.Form.{Form}
+use Rattle.mm_syntax.specs.declared.form.Form.TheVariants as form
 use Rattle.mm_syntax.specs.declared.walk.Built.{Built}
 use Rattle.mm_syntax.specs.declared.walk.Built.TheVariants as built
 use Rattle.mm_syntax.specs.Forms.{Mark, Shown, is_built, all_built, marks_of, of_form, scalar_mark, plain, is_among, all_forms, first_of}

@@ -14,7 +14,7 @@ use Rattle.mm_syntax.specs.declared.stmt.ForStart.TheVariants as start
 use Rattle.mm_syntax.specs.declared.stmt.StmtKind.{StmtKind, StmtKind-F, roll-StmtKind, map-StmtKind, fold-StmtKind, fold-roll-StmtKind}
 use Rattle.mm_syntax.specs.declared.stmt.Stmt.{Stmt-F, roll-Stmt, map-Stmt, fold-roll-Stmt, ind-Stmt}
 use Rattle.mm_syntax.specs.declared.stmt.Stmt.{Stmt as StmtTree}
-use Rattle.mm_syntax.specs.declared.walk.Form.TheVariants as form
+use Rattle.mm_syntax.specs.declared.form.Form.TheVariants as form
 use Rattle.mm_syntax.specs.declared.walk.Built.{Built}
 use Rattle.mm_syntax.specs.declared.walk.Built.TheVariants as built
 use Rattle.mm_syntax.specs.Forms.{Shown, plain, only_if, is_statement, all_statements, type_built, run_built, return_built, block_built, shown_expr, type_shown, shown_type, maybe_expr, mark_or, initial_shown, declarator_shown, variables_shown, start_shown, return_shown, stmt_shown, shown_stmt}

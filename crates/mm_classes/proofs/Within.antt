@@ -66,8 +66,8 @@ picks_step P (up.One m) n false h k = (omega arith, k.1, λ x l p. elim (below_o
 picks_step P up.Several n true h k = (k.0, k.1, k.2, (let z = k.3 in omega arith), k.4, k.5)
 picks_step P up.Several n false h k = (k.0, k.1, k.2, (let z = k.3 in omega arith), k.4, k.5)
 
-pub contains_is : (g : List Class) → IsClassList g → (d : ℕ) (whole part t s : Path) (shared : List ℕ) (r : Bool) → IsSubobject g d whole → IsSubobject g d part → shared ≡ virtual_bases g (end_of whole)
-    → Decides r (((u : List ℕ) × (part ≡ whole ++ u)) ⊎ Has shared (get_or part 0 0)) → whole ≡ t → part ≡ s → Decides r (IsWithin g s t)
-contains_is g ok d whole part t s shared r sw sp v h a b =
+pub contains_is : (g : List Class) → IsClassList g → (d : ℕ) (whole inner t s : Path) (shared : List ℕ) (r : Bool) → IsSubobject g d whole → IsSubobject g d inner → shared ≡ virtual_bases g (end_of whole)
+    → Decides r (((u : List ℕ) × (inner ≡ whole ++ u)) ⊎ Has shared (get_or inner 0 0)) → whole ≡ t → inner ≡ s → Decides r (IsWithin g s t)
+contains_is g ok d whole inner t s shared r sw sp v h a b =
     subst (λ z. Decides r (IsWithin g s z)) a (subst (λ z. Decides r (IsWithin g z whole)) b
-    (within_decides g ok d whole part r sw sp (subst (λ z. Decides r (((u : List ℕ) × (part ≡ whole ++ u)) ⊎ Has z (get_or part 0 0))) v h)))
+    (within_decides g ok d whole inner r sw sp (subst (λ z. Decides r (((u : List ℕ) × (inner ≡ whole ++ u)) ⊎ Has z (get_or inner 0 0))) v h)))

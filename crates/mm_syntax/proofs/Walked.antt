@@ -5,9 +5,9 @@ use Rattle.std.proofs.lemmas.List.{map_more, take_more, append-nil}
 use Rattle.std.proofs.lemmas.Grind.{flat_map-append}
 use Rattle.mm_syntax.specs.declared.expr.Expr.{Expr}
 use Rattle.mm_base.specs.declared.place.Place.{Place}
-use Rattle.mm_syntax.specs.declared.walk.Form.{Form}
-use Rattle.mm_syntax.specs.declared.walk.Forms.{Forms as FormSet}
-use Rattle.mm_syntax.specs.declared.walk.Form.TheVariants.{Construct, Object}
+use Rattle.mm_syntax.specs.declared.form.Form.{Form}
+use Rattle.mm_syntax.specs.declared.form.Forms.{Forms as FormSet}
+use Rattle.mm_syntax.specs.declared.form.Form.TheVariants.{Construct, Object}
 use Rattle.mm_syntax.specs.declared.walk.Built.{Built}
 use Rattle.mm_syntax.specs.declared.name.UnaryOperator.{UnaryOperator}
 use Rattle.mm_syntax.specs.declared.name.UnaryOperator.TheVariants as unary

@@ -39,9 +39,9 @@ use Rattle.mm_syntax.specs.declared.decl.Decl.{Decl}
 use Rattle.mm_syntax.specs.declared.decl.DeclKind.{DeclKind}
 use Rattle.mm_syntax.specs.declared.decl.DeclKind.TheVariants as d
 use Rattle.mm_syntax.specs.declared.decl.Unit.{Unit as UnitTree}
-use Rattle.mm_syntax.specs.declared.walk.Form.{Form}
-use Rattle.mm_syntax.specs.declared.walk.Forms.{Forms as FormSet}
-use Rattle.mm_syntax.specs.declared.walk.Form.TheVariants as form
+use Rattle.mm_syntax.specs.declared.form.Form.{Form}
+use Rattle.mm_syntax.specs.declared.form.Forms.{Forms as FormSet}
+use Rattle.mm_syntax.specs.declared.form.Form.TheVariants as form
 use Rattle.mm_syntax.specs.declared.walk.Built.{Built}
 use Rattle.mm_syntax.specs.declared.walk.Built.TheVariants as built
 

@@ -1,9 +1,9 @@
 -- What a walk for the first tree of a form carries. Own.
 use Rattle.std.specs.Prelude.{◌≡◌, true, ◌&&◌, if◌then◌else◌, List, ◌++◌, Option, Some, None}
 use Rattle.mm_base.specs.declared.place.Place.{Place}
-use Rattle.mm_syntax.specs.declared.walk.Form.{Form}
-use Rattle.mm_syntax.specs.declared.walk.Forms.{Forms as FormSet}
-use Rattle.mm_syntax.specs.declared.walk.Form.TheVariants as form
+use Rattle.mm_syntax.specs.declared.form.Form.{Form}
+use Rattle.mm_syntax.specs.declared.form.Forms.{Forms as FormSet}
+use Rattle.mm_syntax.specs.declared.form.Form.TheVariants as form
 use Rattle.mm_syntax.specs.declared.name.UnaryOperator.{UnaryOperator}
 use Rattle.mm_syntax.specs.declared.name.UnaryOperator.TheVariants as unary
 use Rattle.mm_syntax.specs.declared.walk.Built.{Built}

@@ -2,7 +2,7 @@
 
 ghost use Rattle.std.specs.List.{flat_map};
 ghost use Rattle.std.specs.Prelude.{◌≡◌, ◌&&◌, not, ◌∷◌, [], ◌++◌, List, map};
-ghost use Rattle.mm_syntax.specs.Forms.{is_among, only, all_forms, is_built, is_sum, is_number, is_plus, is_callee, is_statement, is_block, is_type, number_built, name_built, sum_built, run_built, return_built, only_if, call_built, shown_expr, Shown, made_shown, call_shown, plain, shown_type, maybe_expr, mark_or, declarator_shown, variables_shown, start_shown, block_built, return_shown, shown_stmt, param_shown, head_shown, is_main, function_built, init_shown, body_shown, maybe_body, maybe_block, method_form, shown_fn, member_shown, shown_class, shown_decl, shown_unit, first_of, of_form, fn_shown};
+ghost use Rattle.mm_syntax.specs.Forms.{only, is_built, is_sum, is_number, is_plus, is_callee, is_statement, is_block, is_type, number_built, name_built, sum_built, run_built, return_built, only_if, call_built, shown_expr, Shown, made_shown, call_shown, plain, shown_type, maybe_expr, mark_or, declarator_shown, variables_shown, start_shown, block_built, return_shown, shown_stmt, param_shown, head_shown, is_main, function_built, init_shown, body_shown, maybe_body, maybe_block, method_form, shown_fn, member_shown, shown_class, shown_decl, shown_unit, first_of, of_form, fn_shown};
 ghost use Rattle.mm_syntax.specs.declared.walk.Built.TheVariants.{Call, Nothing};
 ghost use Rattle.mm_syntax.specs.Walk.{seen, inside, next, no_tree, one_tree, two_trees, three_trees, formed, plainly, unary_seen, Adds};
 
@@ -11,26 +11,10 @@ use crate::decl::{
     Member, Param, Unit,
 };
 use crate::expr::{Expr, ExprKind, TypeName, TypeNameKind};
+use crate::form::{Form, Forms};
 use crate::name::{BinaryOperator, DeclaratorMark, Number, UnaryOperator};
 use crate::stmt::{Declarator, ForStart, Initializer, Stmt, StmtKind, Variables};
 use mm_base::place::Place;
-
-/// What a tree is for the order in which the language is built.
-#[derive(Clone, Copy, Debug, PartialEq, Eq)]
-pub enum Form {
-    /// Expressions, statements and functions on arithmetic types.
-    Scalar,
-    /// Classes and what stands on their objects.
-    Object,
-    /// Member functions marked `virtual`.
-    Virtual,
-    /// Parameters marked `virtual`.
-    Open,
-    /// Constructors, and what calls them by arguments.
-    Construct,
-    /// `dynamic_cast`.
-    Cast,
-}
 
 /// Which tree of the first texts a tree is, if it is one. These are the units `int main() { .. }` whose statements
 /// are `mm_put(sum);` and `return sum;`, with sums of `int` numbers.
@@ -65,64 +49,6 @@ struct Inside {
     first: Option<Place>,
     all_built: bool,
     all_statements: bool,
-}
-
-/// A set of forms: which of them are in it.
-#[derive(Clone, Copy, Debug, PartialEq, Eq)]
-pub struct Forms {
-    pub scalars: bool,
-    pub objects: bool,
-    pub virtuals: bool,
-    pub opens: bool,
-    pub constructs: bool,
-    pub casts: bool,
-}
-
-impl Forms {
-    ghost use Rattle.std.specs.Prelude.{◌≡◌};
-    ghost use Rattle.mm_syntax.specs.Forms.{is_among, only, all_forms};
-
-    /// Every form.
-    pub fn all() -> Forms
-        ensures { result ≡ all_forms }
-    {
-        Forms {
-            scalars: true,
-            objects: true,
-            virtuals: true,
-            opens: true,
-            constructs: true,
-            casts: true,
-        }
-    }
-
-    /// This form alone.
-    pub fn only(form: Form) -> Forms
-        ensures { result ≡ only form }
-    {
-        Forms {
-            scalars: matches!(form, Form::Scalar),
-            objects: matches!(form, Form::Object),
-            virtuals: matches!(form, Form::Virtual),
-            opens: matches!(form, Form::Open),
-            constructs: matches!(form, Form::Construct),
-            casts: matches!(form, Form::Cast),
-        }
-    }
-
-    /// Whether the form is in the set.
-    pub fn has(self, form: Form) -> bool
-        ensures { result ≡ is_among self form }
-    {
-        match form {
-            Form::Scalar => self.scalars,
-            Form::Object => self.objects,
-            Form::Virtual => self.virtuals,
-            Form::Open => self.opens,
-            Form::Construct => self.constructs,
-            Form::Cast => self.casts,
-        }
-    }
 }
 
 impl Built {

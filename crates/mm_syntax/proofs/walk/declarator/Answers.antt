@@ -1,5 +1,5 @@
 use Rattle.std.proofs.Common.{rules, [], map}
-use Rattle.mm_syntax.specs.declared.walk.Form.TheVariants.{Construct}
+use Rattle.mm_syntax.specs.declared.form.Form.TheVariants.{Construct}
 use Rattle.mm_syntax.specs.Forms.{shown_expr, of_form}
 use Rattle.mm_syntax.proofs.walk.declarator.Goals as goal
 
