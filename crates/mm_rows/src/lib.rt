@@ -9,3 +9,5 @@ mod expressions;
 mod front;
 #[cfg(test)]
 mod tests;
+#[cfg(test)]
+mod trees;
