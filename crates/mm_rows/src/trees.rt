@@ -73,15 +73,6 @@ fn show_all(list: &[Expr], out: &mut String) -> Result<(), AllocError> {
 }
 
 #[cycle(show)]
-fn show_two(left: &Expr, mark: &str, right: &Expr, out: &mut String) -> Result<(), AllocError> {
-    out.push_str("(")?;
-    show(left, out)?;
-    out.push_str(mark)?;
-    show(right, out)?;
-    out.push_str(")")
-}
-
-#[cycle(show)]
 fn show(tree: &Expr, out: &mut String) -> Result<(), AllocError> {
     match &tree.kind {
         ExprKind::Number(number) => out.push_str(number.text.as_str()),
@@ -100,15 +91,34 @@ fn show(tree: &Expr, out: &mut String) -> Result<(), AllocError> {
             show(x.get(), out)?;
             out.push_str(")")
         }
-        ExprKind::Binary(a, operator, _, b) => show_two(a.get(), binary(*operator), b.get(), out),
+        ExprKind::Binary(a, operator, _, b) => {
+            out.push_str("(")?;
+            show(a.get(), out)?;
+            out.push_str(binary(*operator))?;
+            show(b.get(), out)?;
+            out.push_str(")")
+        }
+        _ => show_longer(tree, out),
+    }
+}
+
+#[cycle(show)]
+fn show_longer(tree: &Expr, out: &mut String) -> Result<(), AllocError> {
+    match &tree.kind {
         ExprKind::Assign(a, operator, _, b) => {
-            show_two(a.get(), assigning(*operator), b.get(), out)
+            out.push_str("(")?;
+            show(a.get(), out)?;
+            out.push_str(assigning(*operator))?;
+            show(b.get(), out)?;
+            out.push_str(")")
         }
         ExprKind::Choose(a, _, b, c) => {
             out.push_str("(")?;
             show(a.get(), out)?;
             out.push_str("?")?;
-            show_two(b.get(), ":", c.get(), out)?;
+            show(b.get(), out)?;
+            out.push_str(":")?;
+            show(c.get(), out)?;
             out.push_str(")")
         }
         _ => show_postfix(tree, out),
@@ -194,8 +204,8 @@ fn chains_group_from_the_left_and_by_precedence(rt: HostRuntime) -> Result<(), F
         ("a > b <= c >= d", "(((a>b)<=c)>=d)"),
         ("a == b < c != d", "((a==(b<c))!=d)"),
         ("a || b && c == d", "(a||(b&&(c==d)))"),
-        ("a ? b : c ? d : e", "(a?(b:(c?(d:e))))"),
-        ("a || b ? c : d = e", "((a||b)?(c:(d=e)))"),
+        ("a ? b : c ? d : e", "(a?b:(c?d:e))"),
+        ("a || b ? c : d = e", "((a||b)?c:(d=e))"),
         ("a = b += c -= d", "(a=(b+=(c-=d)))"),
         ("a *= b /= c %= d", "(a*=(b/=(c%=d)))"),
     ];
