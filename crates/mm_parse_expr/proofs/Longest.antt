@@ -18,7 +18,8 @@ use Rattle.mm_cursor.specs.declared.Stop.{Stop}
 use Rattle.mm_cursor.specs.declared.Stop.TheVariants as stop
 use Rattle.mm_cursor.specs.Cursor.{Answers}
 use Rattle.mm_cursor.proofs.Steps.{good}
-use Rattle.mm_parse_expr.specs.Longest.{IsLongestFront, IsExpr, IsNotExpr, IsTooLong, IsPlaceAt, ParsesFrom, OneTree, place_of, y1, y2}
+use Rattle.mm_parse_expr.specs.Longest.{IsLongestFront, IsExpr, IsNotExpr, IsTooLong, IsPlaceAt, ParsesFrom, OneTree, place_of}
+use Rattle.mm_base.specs.declared.code.TheConstants.Code.{Y1, Y2}
 
 is_longest : (ts used rest : List Token) → ts ≡ used ++ rest → Front units (name expr) used → Stuck units (name expr) used rest → IsLongestFront ts used rest
 is_longest ts used rest cut front stuck = record {
@@ -110,7 +111,7 @@ parsed ts n end at rest tree v h a e i =
       omega (arith, i, l),
     )
 
-pub not_parsed : (ts : List Token) (n : ℕ) (end : Place) (rest : List Token) (code : Code) (place : Place) → (length ts ≤ n) ⊎ (1 < length rest) → Fails units (name expr) (take (suc n) ts) rest → code ≡ y1 → place ≡ place_of rest end → IsNotExpr ts n end code place
+pub not_parsed : (ts : List Token) (n : ℕ) (end : Place) (rest : List Token) (code : Code) (place : Place) → (length ts ≤ n) ⊎ (1 < length rest) → Fails units (name expr) (take (suc n) ts) rest → code ≡ Y1 → place ≡ place_of rest end → IsNotExpr ts n end code place
 not_parsed ts n end rest code place h a e i =
     let more = drop (suc n) ts in
     let l = used_length (take (suc n) ts) a.used rest a.cut in
@@ -132,16 +133,16 @@ not_parsed ts n end rest code place h a e i =
     at_most [] = omega arith
     at_most (x ∷ xs) = omega arith
 
-pub too_long : (ts : List Token) (n : ℕ) (rest used : List Token) (code : Code) (place : Place) → n < length ts → length rest ≡ 0 → take (suc n) ts ≡ used ++ rest → Front units (name expr) used → code ≡ y2 → IsPlaceAt ts n place → IsTooLong ts n code place
+pub too_long : (ts : List Token) (n : ℕ) (rest used : List Token) (code : Code) (place : Place) → n < length ts → length rest ≡ 0 → take (suc n) ts ≡ used ++ rest → Front units (name expr) used → code ≡ Y2 → IsPlaceAt ts n place → IsTooLong ts n code place
 too_long ts n rest used code place h z c f e i =
     let l = used_length (take (suc n) ts) used rest c in
     let m = read_length ts n in
     (e, i, inl (used, rest ++ drop (suc n) ts, cut_before ts (take (suc n) ts) (drop (suc n) ts) used rest (cut_of ts n) c, f, omega (arith, l, m, z, h)))
 
-pub too_long_tree : (ts : List Token) (n : ℕ) (rest : List Token) (tree : Begun) (code : Code) (place : Place) → n < length ts → length rest ≡ 0 → Reads units (name expr) (take (suc n) ts) tree rest → code ≡ y2 → IsPlaceAt ts n place → IsTooLong ts n code place
+pub too_long_tree : (ts : List Token) (n : ℕ) (rest : List Token) (tree : Begun) (code : Code) (place : Place) → n < length ts → length rest ≡ 0 → Reads units (name expr) (take (suc n) ts) tree rest → code ≡ Y2 → IsPlaceAt ts n place → IsTooLong ts n code place
 too_long_tree ts n rest tree code place h z a e i = too_long ts n rest a.used code place h z a.cut (whole_front a.used tree a.spelled) e i
 
-pub too_long_fault : (ts : List Token) (n : ℕ) (rest : List Token) (code : Code) (place : Place) → n < length ts → length rest ≤ 1 → Fails units (name expr) (take (suc n) ts) rest → code ≡ y2 → IsPlaceAt ts n place → IsTooLong ts n code place
+pub too_long_fault : (ts : List Token) (n : ℕ) (rest : List Token) (code : Code) (place : Place) → n < length ts → length rest ≤ 1 → Fails units (name expr) (take (suc n) ts) rest → code ≡ Y2 → IsPlaceAt ts n place → IsTooLong ts n code place
 too_long_fault ts n [] code place h z a e i = too_long ts n [] a.used code place h refl a.cut a.front e i
 too_long_fault ts n (t ∷ []) code place h z a e i =
     let l = used_length (take (suc n) ts) a.used (t ∷ []) a.cut in
@@ -166,15 +167,15 @@ read_is ts read cursor n e f = let one : n + 1 ≡ suc n = omega arith in e ∙ 
 faulty : (ts rest : List Token) (e : Stop) → e ≡ stop.Fault → Answers (name expr) ts (Err e) rest → Fails units (name expr) ts rest
 faulty ts rest e h a = subst (λ x. Answers (name expr) ts (Err x) rest) h a
 
-pub answer_long_tree : (ts read cursor rest left : List Token) (n : ℕ) (tree : Begun) (place : Place) → cursor ≡ read → read ≡ take (n + 1) ts → left ≡ rest → n < length ts → length left ≡ 0 → Reads units (name expr) cursor tree rest → IsPlaceAt ts n place → IsTooLong ts n y2 place
+pub answer_long_tree : (ts read cursor rest left : List Token) (n : ℕ) (tree : Begun) (place : Place) → cursor ≡ read → read ≡ take (n + 1) ts → left ≡ rest → n < length ts → length left ≡ 0 → Reads units (name expr) cursor tree rest → IsPlaceAt ts n place → IsTooLong ts n Y2 place
 answer_long_tree ts read cursor rest left n tree place e f g h z a p =
     let l = ap length g in
-    too_long_tree ts n rest tree y2 place h (omega (arith, l, z)) (subst (λ w. Reads units (name expr) w tree rest) (read_is ts read cursor n e f) a) refl p
+    too_long_tree ts n rest tree Y2 place h (omega (arith, l, z)) (subst (λ w. Reads units (name expr) w tree rest) (read_is ts read cursor n e f) a) refl p
 
-pub answer_long_fault : (ts read cursor rest left : List Token) (n : ℕ) (s : Stop) (place : Place) → cursor ≡ read → read ≡ take (n + 1) ts → left ≡ rest → n < length ts → length left ≤ 1 → s ≡ stop.Fault → Answers (name expr) cursor (Err s) rest → IsPlaceAt ts n place → IsTooLong ts n y2 place
+pub answer_long_fault : (ts read cursor rest left : List Token) (n : ℕ) (s : Stop) (place : Place) → cursor ≡ read → read ≡ take (n + 1) ts → left ≡ rest → n < length ts → length left ≤ 1 → s ≡ stop.Fault → Answers (name expr) cursor (Err s) rest → IsPlaceAt ts n place → IsTooLong ts n Y2 place
 answer_long_fault ts read cursor rest left n s place e f g h z i a p =
     let l = ap length g in
-    too_long_fault ts n rest y2 place h (omega (arith, l, z)) (subst (λ w. Fails units (name expr) w rest) (read_is ts read cursor n e f) (faulty cursor rest s i a)) refl p
+    too_long_fault ts n rest Y2 place h (omega (arith, l, z)) (subst (λ w. Fails units (name expr) w rest) (read_is ts read cursor n e f) (faulty cursor rest s i a)) refl p
 
 pub answer_tree : (ts read cursor rest left : List Token) (n at : ℕ) (end : Place) (tree inner : Begun) → cursor ≡ read → read ≡ take (n + 1) ts → left ≡ rest → (length ts ≤ n) ⊎ (0 < length left) → Reads units (name expr) cursor tree rest → inner ≡ tree →
     ParsesFrom ts n end at (Ok (inner.tree, at + (length read - length left)))
@@ -184,8 +185,8 @@ answer_tree ts read cursor rest left n at end tree inner e f g h a i =
     parsed ts n end at rest tree (inner.tree, at + (length read - length left)) (elim h [ inl j ↦ inl j | inr j ↦ inr (omega (arith, l, j)) ])
     (subst (λ w. Reads units (name expr) w tree rest) (read_is ts read cursor n e f) a) (ap (λ w. w.tree) i) (omega (arith, l, m))
 
-pub answer_fault : (ts read cursor rest left : List Token) (n : ℕ) (end : Place) (s : Stop) (place : Place) → cursor ≡ read → read ≡ take (n + 1) ts → left ≡ rest → (length ts ≤ n) ⊎ (1 < length left) → s ≡ stop.Fault → Answers (name expr) cursor (Err s) rest → place ≡ place_of left end → IsNotExpr ts n end y1 place
+pub answer_fault : (ts read cursor rest left : List Token) (n : ℕ) (end : Place) (s : Stop) (place : Place) → cursor ≡ read → read ≡ take (n + 1) ts → left ≡ rest → (length ts ≤ n) ⊎ (1 < length left) → s ≡ stop.Fault → Answers (name expr) cursor (Err s) rest → place ≡ place_of left end → IsNotExpr ts n end Y1 place
 answer_fault ts read cursor rest left n end s place e f g h i a p =
     let l = ap length g in
-    not_parsed ts n end rest y1 place (elim h [ inl j ↦ inl j | inr j ↦ inr (omega (arith, l, j)) ])
+    not_parsed ts n end rest Y1 place (elim h [ inl j ↦ inl j | inr j ↦ inr (omega (arith, l, j)) ])
     (subst (λ w. Fails units (name expr) w rest) (read_is ts read cursor n e f) (faulty cursor rest s i a)) refl (p ∙ ap (λ w. place_of w end) g)

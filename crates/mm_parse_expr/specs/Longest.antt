@@ -2,6 +2,8 @@
 use Rattle.std.specs.Prelude.{◌≡◌, ℕ, suc, ◌+◌, ◌-◌, ◌<◌, ◌≤◌, Bool, if◌then◌else◌, List, [], ◌∷◌, ◌++◌, ◌⊎◌, length, take, drop, map, Result, Ok, Err}
 use Rattle.mm_grammar.specs.Grammar.{name, has, Spells, Front}
 use Rattle.mm_base.specs.declared.code.Code.{Code}
+use Rattle.mm_base.specs.declared.code.TheConstants.Code.{Y1, Y2}
+use Rattle.mm_base.specs.declared.limits.TheConstants.{MAX_TOKEN_RUN}
 use Rattle.mm_base.specs.declared.place.Place.{Place}
 use Rattle.mm_token.specs.declared.token.Token.{Token}
 use Rattle.mm_syntax.specs.declared.symbol.Symbol.TheVariants as k
@@ -36,9 +38,9 @@ abbrev pub count_from : ℕ → List Token → ℕ
 count_from n [] = n
 count_from n (t ∷ ts) = count_from (if ends_count t then 0 else suc n) ts
 
--- how many tokens may follow these before the next one is past the limit: 1,000 since the last `;`, `{` or `}`
+-- how many tokens may follow these before the next one is past the limit
 abbrev pub room_after : List Token → ℕ
-room_after before = 1000 - count_from 0 before
+room_after before = MAX_TOKEN_RUN - count_from 0 before
 
 -- ---- what the parser answers
 
@@ -51,19 +53,13 @@ place_of (t ∷ ts) end = t.place
 abbrev pub IsPlaceAt : List Token → ℕ → Place → Type 0
 IsPlaceAt tokens n place = (before : List Token) × (t : Token) × (after : List Token) × (tokens ≡ before ++ t ∷ after) × (length before ≡ n) × (place ≡ t.place)
 
-abbrev pub y1 : Code
-y1 = record { letter = 89; number = 1 }
-
-abbrev pub y2 : Code
-y2 = record { letter = 89; number = 2 }
-
 -- The longest front is no expression; it and the token after it, at which the fault is, are within the limit.
 abbrev pub IsNotExpr : List Token → ℕ → Place → Code → Place → Type 0
-IsNotExpr tokens room end code place = (front : List Token) × (rest : List Token) × IsLongestFront tokens front rest × IsNoExpr front × (length front + length (take 1 rest) ≤ room) × (code ≡ y1) × (place ≡ place_of rest end)
+IsNotExpr tokens room end code place = (front : List Token) × (rest : List Token) × IsLongestFront tokens front rest × IsNoExpr front × (length front + length (take 1 rest) ≤ room) × (code ≡ Y1) × (place ≡ place_of rest end)
 
 -- The first token past the limit is in a front of an expression; or it follows the longest front, which is no expression.
 abbrev pub IsTooLong : List Token → ℕ → Code → Place → Type 0
-IsTooLong tokens room code place = (code ≡ y2) × IsPlaceAt tokens room place ×
+IsTooLong tokens room code place = (code ≡ Y2) × IsPlaceAt tokens room place ×
     (((front : List Token) × (more : List Token) × (tokens ≡ front ++ more) × Front units (name expr) front × (room < length front))
     ⊎ ((front : List Token) × (rest : List Token) × IsLongestFront tokens front rest × IsNoExpr front × (length front ≡ room)))
 

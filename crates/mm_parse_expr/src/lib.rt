@@ -9,6 +9,7 @@ pub mod limit;
 pub mod parser;
 
 use mm_base::code::Code;
+use mm_base::limits::MAX_TOKEN_RUN;
 use mm_base::place::Place;
 use mm_cursor::{Cursor, Stop};
 use mm_syntax::expr::Expr;
@@ -22,16 +23,6 @@ pub enum ParseEnd {
     Fault(Code, Place),
     NoMemory,
 }
-
-const NO_TEXT: Code = Code {
-    letter: 89,
-    number: 1,
-};
-
-const TOO_LONG: Code = Code {
-    letter: 89,
-    number: 2,
-};
 
 /// The expression that begins at a token, and the index after it.
 pub fn expr(alloc: Global, tokens: &Tokens, at: usize) -> Result<(Expr, usize), ParseEnd>
@@ -51,7 +42,7 @@ fn expr_from(
     end: Place,
     at: usize,
 ) -> Result<(Expr, usize), ParseEnd>
-    requires within { room ≤ 1000 }
+    requires within { room ≤ MAX_TOKEN_RUN }
     requires fits { at + length tokens.now < 2 ^ 64 }
     ensures { ParsesFrom tokens.now room end at result }
 {
@@ -62,7 +53,7 @@ fn expr_from(
         Ok(begun) => {
             let left = cursor.rest().len();
             if is_cut && left == 0 {
-                return Err(ParseEnd::Fault(TOO_LONG, place_at(tokens, room)));
+                return Err(ParseEnd::Fault(Code::Y2, place_at(tokens, room)));
             }
             let Begun { tree, .. } = begun.into_inner();
             Ok((tree, at + (read.len() - left)))
@@ -70,9 +61,9 @@ fn expr_from(
         Err(Stop::Fault) => {
             let rest = cursor.rest();
             if is_cut && rest.len() <= 1 {
-                return Err(ParseEnd::Fault(TOO_LONG, place_at(tokens, room)));
+                return Err(ParseEnd::Fault(Code::Y2, place_at(tokens, room)));
             }
-            Err(ParseEnd::Fault(NO_TEXT, first_place(rest, end)))
+            Err(ParseEnd::Fault(Code::Y1, first_place(rest, end)))
         }
         Err(Stop::NoMemory) => Err(ParseEnd::NoMemory),
     }

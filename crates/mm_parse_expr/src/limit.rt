@@ -3,11 +3,9 @@
 ghost use Rattle.std.specs.Prelude.{◌≡◌, ◌≤◌, length, take};
 ghost use Rattle.mm_parse_expr.specs.Longest.{ends_count, room_after};
 
+use mm_base::limits::MAX_TOKEN_RUN;
 use mm_syntax::symbol::{Symbol, classify};
 use mm_token::token::Token;
-
-/// The most tokens that may follow a `;`, `{` or `}` without another one.
-pub const MOST: usize = 1000;
 
 /// Whether the count of tokens begins anew after this one: at `;`, `{` and `}`.
 pub fn ends_count(token: &Token) -> bool
@@ -24,7 +22,7 @@ pub fn room(tokens: &[Token], at: usize) -> usize
     requires { at ≤ length tokens.now }
     ensures { result ≡ room_after (take at tokens.now) }
 {
-    let mut room = MOST;
+    let mut room = MAX_TOKEN_RUN;
     let mut before = at;
     while room > 0 && before > 0 {
         before -= 1;

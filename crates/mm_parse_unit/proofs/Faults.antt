@@ -12,7 +12,7 @@ use Rattle.mm_syntax.specs.Rules.{units, unit}
 use Rattle.mm_cursor.specs.declared.Stop.{Stop}
 use Rattle.mm_cursor.specs.declared.Stop.TheVariants as stop
 use Rattle.mm_cursor.specs.Cursor.{Answers}
-use Rattle.mm_parse_expr.specs.Longest.{y1, y2}
+use Rattle.mm_base.specs.declared.code.TheConstants.Code.{Y1, Y2}
 use Rattle.mm_parse_unit.specs.Units.{nesting, unlimited, IsFront, KeepsCount, IsUnit, IsSyntaxFault, IsTreeOf}
 use Rattle.mm_parse_unit.specs.Reading.{IsFirstPast, IsReading, IsNoText, StopsBefore, GoesOn, unit_of}
 use Rattle.mm_parse_unit.proofs.Elsewhere.{whole}
@@ -31,7 +31,7 @@ front_is ts a b n e l = ap (take n) e ∙ take_at a b n l
 
 -- ---- a fault at a token, of which it is known if a unit without a limit on nesting goes on with it
 
-pub too_deep : (ts : List Token) (at : ℕ) (t : Token) (end : Place) → at < length ts → StopsBefore ts at → GoesOn (take (at + 1) ts) true → IsSyntaxFault ts end y2 (slice_index_or ts at t).place
+pub too_deep : (ts : List Token) (at : ℕ) (t : Token) (end : Place) → at < length ts → StopsBefore ts at → GoesOn (take (at + 1) ts) true → IsSyntaxFault ts end Y2 (slice_index_or ts at t).place
 too_deep ts at t end w s h =
     let e : take (at + 1) ts ≡ take at ts ++ slice_index_or ts at t ∷ [] = take_more ts at t w in
     inr (record {
@@ -46,7 +46,7 @@ too_deep ts at t end w s h =
       place_is = refl;
     })
 
-pub no_unit_at : (ts : List Token) (at : ℕ) (t : Token) (end : Place) → at < length ts → StopsBefore ts at → GoesOn (take (at + 1) ts) false → IsSyntaxFault ts end y1 (slice_index_or ts at t).place
+pub no_unit_at : (ts : List Token) (at : ℕ) (t : Token) (end : Place) → at < length ts → StopsBefore ts at → GoesOn (take (at + 1) ts) false → IsSyntaxFault ts end Y1 (slice_index_or ts at t).place
 no_unit_at ts at t end w s h =
     let e : take (at + 1) ts ≡ take at ts ++ slice_index_or ts at t ∷ [] = take_more ts at t w in
     inl (record {
@@ -132,7 +132,7 @@ stops_before ts at left p r l = let i = r.left_is in stops_at ts r.front r.rest 
 all_front : (ts : List Token) (left : ℕ) → IsReading ts left → left ≡ 0 → IsFront nesting ts
 all_front ts left r l = let i = r.left_is in all_read nesting ts r.front r.rest r.cut r.is_front (empty_list r.rest (omega (arith, l, i)))
 
-pub count_fault : (ts : List Token) (end : Place) (at left : ℕ) (t : Token) → IsFirstPast ts at → IsReading (take at ts) left → left ≡ 0 → at < length ts → IsSyntaxFault ts end y2 (slice_index_or ts at t).place
+pub count_fault : (ts : List Token) (end : Place) (at left : ℕ) (t : Token) → IsFirstPast ts at → IsReading (take at ts) left → left ≡ 0 → at < length ts → IsSyntaxFault ts end Y2 (slice_index_or ts at t).place
 count_fault ts end at left t p r l w = inr (record {
   front = take at ts;
   token = slice_index_or ts at t;
@@ -151,7 +151,7 @@ all_taken [] (suc at) l = refl
 all_taken (x ∷ ts) zero l = absurd (omega (arith, l))
 all_taken (x ∷ ts) (suc at) l = ap (λ u. x ∷ u) (all_taken ts at (omega (arith, l)))
 
-pub end_fault : (ts : List Token) (end : Place) (at left : ℕ) → IsFirstPast ts at → IsReading (take at ts) left → (left ≡ 0 → at ≡ length ts → IsNoText ts) → left ≡ 0 → length ts ≤ at → IsSyntaxFault ts end y1 end
+pub end_fault : (ts : List Token) (end : Place) (at left : ℕ) → IsFirstPast ts at → IsReading (take at ts) left → (left ≡ 0 → at ≡ length ts → IsNoText ts) → left ≡ 0 → length ts ≤ at → IsSyntaxFault ts end Y1 end
 end_fault ts end at left p r none l w =
     let all = all_taken ts at w in
     let within = p.within in

@@ -1,32 +1,34 @@
 -- What a unit is, its two limits, and the first syntax fault. Own.
-use Rattle.std.specs.Prelude.{◌≡◌, ℕ, ◌≤◌, ◌^◌, List, [], ◌∷◌, ◌++◌, ◌⊎◌, take, Result, Ok, Err}
+use Rattle.std.specs.Prelude.{◌≡◌, ℕ, ◌≤◌, List, [], ◌∷◌, ◌++◌, ◌⊎◌, take, Result, Ok, Err}
 use Rattle.mm_grammar.specs.Grammar.{name, Spells, Front}
 use Rattle.mm_base.specs.declared.code.Code.{Code}
+use Rattle.mm_base.specs.declared.code.TheConstants.Code.{Y1, Y2}
+use Rattle.mm_base.specs.declared.limits.TheConstants.{MAX_UNIT_BYTES, MAX_TOKEN_RUN, MAX_NESTING}
 use Rattle.mm_base.specs.declared.place.Place.{Place}
 use Rattle.mm_token.specs.declared.token.Token.{Token}
 use Rattle.mm_token.specs.declared.token.Tokens.{Tokens}
 use Rattle.mm_syntax.specs.declared.decl.Decl.{Decl}
 use Rattle.mm_syntax.specs.declared.decl.Unit.{Unit as UnitTree}
 use Rattle.mm_syntax.specs.Rules.{units, unit}
-use Rattle.mm_parse_expr.specs.Longest.{count_from, place_of, y1, y2}
+use Rattle.mm_parse_expr.specs.Longest.{count_from, place_of}
 use Rattle.mm_parse_expr.specs.declared.ParseEnd.{ParseEnd}
 use Rattle.mm_parse_expr.specs.declared.ParseEnd.TheVariants as end_is
 
 -- how many statements may stand one inside the other
 abbrev pub nesting : ℕ
-nesting = 200
+nesting = MAX_NESTING
 
 -- as many as there are bytes in the longest unit, which is no limit
 abbrev pub unlimited : ℕ
-unlimited = 2 ^ 20
+unlimited = MAX_UNIT_BYTES
 
 -- A unit may begin with these tokens, where so many statements may stand one inside the other.
 abbrev pub IsFront : ℕ → List Token → Type 0
 IsFront n tokens = Front units (name (unit n)) tokens
 
--- The token after these is past the limit: it is at least the 1,001st since the last `;`, `{` or `}`.
+-- The token after these is past the limit: so many stand between the last `;`, `{` or `}` and it.
 abbrev pub IsPastCount : List Token → Type 0
-IsPastCount before = 1000 ≤ count_from 0 before
+IsPastCount before = MAX_TOKEN_RUN ≤ count_from 0 before
 
 -- no token is
 abbrev pub KeepsCount : List Token → Type 0
@@ -51,7 +53,7 @@ pub record IsNoUnit (tokens : List Token) (end : Place) (code : Code) (place : P
   pub is_front : IsFront nesting front
   pub counted : KeepsCount (front ++ take 1 rest)
   pub ends : EndsHere front rest
-  pub code_is : code ≡ y1
+  pub code_is : code ≡ Y1
   pub place_is : place ≡ place_of rest end
 
 -- The token after these begins a statement that stands in too many others: a unit goes on with it, but none that keeps the
@@ -69,7 +71,7 @@ pub record IsPastLimit (tokens : List Token) (code : Code) (place : Place) : Typ
   pub is_front : IsFront nesting front
   pub counted : KeepsCount front
   pub past : IsPastCount front ⊎ IsTooDeep front token
-  pub code_is : code ≡ y2
+  pub code_is : code ≡ Y2
   pub place_is : place ≡ token.place
 
 -- The first syntax fault of the tokens is this one.

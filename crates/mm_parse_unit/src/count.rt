@@ -2,7 +2,8 @@
 
 ghost use Rattle.mm_parse_unit.specs.Reading.{IsFirstPast};
 
-use mm_parse_expr::limit::{MOST, ends_count};
+use mm_base::limits::MAX_TOKEN_RUN;
+use mm_parse_expr::limit::ends_count;
 use mm_token::token::Token;
 
 /// The index of the first token past the limit, or the number of tokens.
@@ -11,7 +12,7 @@ pub fn first_past(tokens: &[Token]) -> usize
 {
     let mut count = 0;
     let mut at = 0;
-    while count < MOST && at < tokens.len() {
+    while count < MAX_TOKEN_RUN && at < tokens.len() {
         count = if ends_count(&tokens[at]) {
             0
         } else {

@@ -15,6 +15,7 @@ pub mod law;
 use count::first_past;
 use decls::decls;
 use mm_base::code::Code;
+use mm_base::limits::{MAX_NESTING, MAX_UNIT_BYTES};
 use mm_base::place::Place;
 use mm_base::text::Text;
 use mm_cursor::{Cursor, Stop};
@@ -24,21 +25,8 @@ use mm_token::token::{Token, Tokens};
 use sqlite_items::Items;
 use std::alloc::{AllocError, Global};
 
-const NO_TEXT: Code = Code {
-    letter: 89,
-    number: 1,
-};
-
-const PAST_LIMIT: Code = Code {
-    letter: 89,
-    number: 2,
-};
-
-/// How many statements may stand one inside the other.
-const NESTING: usize = 200;
-
 /// As many as there are bytes in the longest unit, which is no limit.
-const UNLIMITED: usize = 1_048_576;
+const UNLIMITED: usize = MAX_UNIT_BYTES as usize;
 
 /// The tree of a unit, or its first syntax fault.
 pub fn unit(alloc: Global, tokens: &Tokens) -> Result<Unit, ParseEnd>
@@ -47,7 +35,7 @@ pub fn unit(alloc: Global, tokens: &Tokens) -> Result<Unit, ParseEnd>
     let list = tokens.list.as_slice();
     let at = first_past(list);
     let mut cursor = Cursor::new(&list[..at]);
-    match decls(alloc, &mut cursor, NESTING) {
+    match decls(alloc, &mut cursor, MAX_NESTING) {
         Ok(decls) => {
             let left = cursor.rest().len();
             if left == 0 && at == list.len() {
@@ -78,9 +66,9 @@ fn first_fault(alloc: Global, tokens: &[Token], at: usize, left: usize, end: Pla
         return fault_at(alloc, tokens, at - left);
     }
     if at < tokens.len() {
-        return ParseEnd::Fault(PAST_LIMIT, tokens[at].place);
+        return ParseEnd::Fault(Code::Y2, tokens[at].place);
     }
-    ParseEnd::Fault(NO_TEXT, end)
+    ParseEnd::Fault(Code::Y1, end)
 }
 
 /// The fault at a token with which no unit within the limits goes on.
@@ -91,8 +79,8 @@ fn fault_at(alloc: Global, tokens: &[Token], at: usize) -> ParseEnd
 {
     let place = tokens[at].place;
     match goes_on(alloc, &tokens[..at + 1]) {
-        Ok(true) => ParseEnd::Fault(PAST_LIMIT, place),
-        Ok(false) => ParseEnd::Fault(NO_TEXT, place),
+        Ok(true) => ParseEnd::Fault(Code::Y2, place),
+        Ok(false) => ParseEnd::Fault(Code::Y1, place),
         Err(_) => ParseEnd::NoMemory,
     }
 }

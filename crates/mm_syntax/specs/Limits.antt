@@ -1,6 +1,7 @@
 -- What every unit keeps that was read from tokens: bounds on its expressions, statements and numbers of parts. Own.
-use Rattle.std.specs.Prelude.{ℕ, ◌+◌, ◌^◌, ◌≤◌, max, List, [], ◌∷◌, ◌++◌, length, map, All, sum, Option, Some, None}
+use Rattle.std.specs.Prelude.{ℕ, ◌+◌, ◌≤◌, max, List, [], ◌∷◌, ◌++◌, length, map, All, sum, Option, Some, None}
 use Rattle.std.specs.List.{flat_map}
+use Rattle.mm_base.specs.declared.limits.TheConstants.{MAX_UNIT_BYTES, MAX_TOKEN_RUN, MAX_NESTING}
 use Rattle.mm_syntax.specs.declared.name.Name.{Name}
 use Rattle.mm_syntax.specs.declared.expr.Expr.{Expr, fold-Expr}
 use Rattle.mm_syntax.specs.declared.expr.ExprKind.TheOpen.{ExprKind-F}
@@ -206,10 +207,10 @@ names_of unit = length unit.decls + sum (map (λ x. decl_members x.kind) unit.de
 
 pub record IsWithinLimits (unit : UnitTree) : Type 0 where
   -- the trees of an expression have at most so many tokens of their own
-  pub expressions : All (λ x. tokens_of x ≤ 1000) (exprs_of unit)
+  pub expressions : All (λ x. tokens_of x ≤ MAX_TOKEN_RUN) (exprs_of unit)
   -- a statement stands in at most so many others, a function's body included
-  pub statements : All (λ x. depth_of x ≤ 200) (bodies_of unit)
-  pub names : names_of unit ≤ 2 ^ 20
-  pub bytes : unit.bytes ≤ 2 ^ 20
+  pub statements : All (λ x. depth_of x ≤ MAX_NESTING) (bodies_of unit)
+  pub names : names_of unit ≤ MAX_UNIT_BYTES
+  pub bytes : unit.bytes ≤ MAX_UNIT_BYTES
   pub some_file : 1 ≤ length unit.files
   pub few_files : length unit.files ≤ unit.bytes + 1

@@ -6,8 +6,9 @@ use Rattle.mm_token.specs.declared.token.Tokens.{Tokens}
 use Rattle.mm_token.specs.declared.token.TokenEnd.{TokenEnd}
 use Rattle.mm_token.specs.declared.token.TokenEnd.TheVariants.{Absent, Failed, TooLong, Fault, NoMemory}
 use Rattle.mm_token.specs.Characters.{characters_of, place_after}
-use Rattle.mm_token.specs.Cut.{lexical}
-use Rattle.mm_token.specs.Tokens.{State, byte_limit, with_file, file_start, Fits, KeepsOut, PutsText, PutsFile, StopsText, Refuses, Stopped, nothing_read, unit_start, Reads, IsRefused}
+use Rattle.mm_base.specs.declared.code.TheConstants.Code.{L6}
+use Rattle.mm_base.specs.declared.limits.TheConstants.{MAX_UNIT_BYTES}
+use Rattle.mm_token.specs.Tokens.{State, with_file, file_start, Fits, KeepsOut, PutsText, PutsFile, StopsText, Refuses, Stopped, nothing_read, unit_start, depth_limit, Reads, IsRefused}
 use Rattle.mm_token.specs.OneReading.{IsByContents, SameTokens}
 use Rattle.mm_token.proofs.One.{text_once, stop_once, text_or_stop}
 
@@ -18,13 +19,13 @@ module _ (h : Contents) where
   -- why a file is kept out
   data Kept (name from : List ℕ) (at : Place) (s : State) (e : TokenEnd) : Type 0 where
     lacking : h name ≡ None → e ≡ Absent name at → Kept name from at s e
-    long : (bytes : List ℕ) → h name ≡ Some bytes → byte_limit < length bytes → e ≡ TooLong name → Kept name from at s e
-    past : (bytes : List ℕ) → h name ≡ Some bytes → length bytes ≤ byte_limit → byte_limit < s.bytes + length bytes → e ≡ Fault (lexical 6) at from → Kept name from at s e
+    long : (bytes : List ℕ) → h name ≡ Some bytes → MAX_UNIT_BYTES < length bytes → e ≡ TooLong name → Kept name from at s e
+    past : (bytes : List ℕ) → h name ≡ Some bytes → length bytes ≤ MAX_UNIT_BYTES → MAX_UNIT_BYTES < s.bytes + length bytes → e ≡ Fault (L6) at from → Kept name from at s e
 
   kept_by : (name from : List ℕ) (at : Place) (s : State) (e : TokenEnd) → IsByContents e → KeepsOut (Some h) name from at s e → Kept name from at s e
   kept_by name from at s (Absent n p) told k = lacking k.0 (ap (λ x. Absent x p) k.1 ∙ ap (Absent name) k.2)
   kept_by name from at s (TooLong n) told k = long k.0.0 k.0.1 k.0.2 (ap TooLong k.1)
-  kept_by name from at s (Fault c p n) told k = past k.0 k.1 k.2 k.3 (ap (λ x. Fault x p n) k.4 ∙ (ap (λ x. Fault (lexical 6) x n) k.5 ∙ ap (Fault (lexical 6) at) k.6))
+  kept_by name from at s (Fault c p n) told k = past k.0 k.1 k.2 k.3 (ap (λ x. Fault x p n) k.4 ∙ (ap (λ x. Fault (L6) x n) k.5 ∙ ap (Fault (L6) at) k.6))
   kept_by name from at s (Failed n) told k = absurd told
   kept_by name from at s NoMemory told k = absurd told
 
@@ -113,12 +114,12 @@ module _ (h : Contents) where
   by_contents NoMemory P c h = absurd c
 
   -- a unit is a file that no file includes
-  unit_puts : (unit : List ℕ) (t : Tokens) (x : Reads (Some h) unit t) → PutsFile (Some h) 33 unit nothing_read x.1
+  unit_puts : (unit : List ℕ) (t : Tokens) (x : Reads (Some h) unit t) → PutsFile (Some h) depth_limit unit nothing_read x.1
   unit_puts unit t x = (x.0, x.2, x.3)
 
   pub tokens_once : (unit : List ℕ) (t u : Tokens) → Reads (Some h) unit t → Reads (Some h) unit u → SameTokens t u
   tokens_once unit t u x y =
-      let s : x.1 ≡ y.1 = (level 33).file_once unit nothing_read x.1 y.1 (unit_puts unit t x) (unit_puts unit u y) in
+      let s : x.1 ≡ y.1 = (level depth_limit).file_once unit nothing_read x.1 y.1 (unit_puts unit t x) (unit_puts unit u y) in
       let b : x.0 ≡ y.0 = one_bytes unit x.0 y.0 x.2.0 y.2.0 in
       record {
         files = x.4 ∙ (ap (λ (w : State). w.files) s ∙ sym y.4);
@@ -129,8 +130,8 @@ module _ (h : Contents) where
 
   pub fault_once : (unit : List ℕ) (d e : TokenEnd) → IsByContents d → IsByContents e → IsRefused (Some h) unit d → IsRefused (Some h) unit e → d ≡ e
   unfolding Told
-  fault_once unit d e c k x y = (level 33).refused_once [] unit unit_start nothing_read d e (c, by_contents d _ c x) (k, by_contents e _ k y)
+  fault_once unit d e c k x y = (level depth_limit).refused_once [] unit unit_start nothing_read d e (c, by_contents d _ c x) (k, by_contents e _ k y)
 
   pub never_both : (unit : List ℕ) (t : Tokens) (e : TokenEnd) → IsByContents e → Reads (Some h) unit t → IsRefused (Some h) unit e → ⊥
   unfolding Told
-  never_both unit t e c x y = (level 33).not_both [] unit unit_start nothing_read x.1 e (unit_puts unit t x) (c, by_contents e _ c y)
+  never_both unit t e c x y = (level depth_limit).not_both [] unit unit_start nothing_read x.1 e (unit_puts unit t x) (c, by_contents e _ c y)

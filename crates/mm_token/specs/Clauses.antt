@@ -1,6 +1,6 @@
 -- What the reader's functions answer.
 use Rattle.std.specs.Prelude.{◌≡◌, ℕ, ◌<◌, false, IsTrue, List, length, Option, Some}
-use Rattle.mm_base.specs.Outside.{Contents}
+use Rattle.mm_base.specs.Outside.{Contents, FilesSeen}
 use Rattle.mm_base.specs.declared.place.Place.{Place}
 use Rattle.mm_token.specs.declared.piece.Shape.{Shape}
 use Rattle.mm_token.specs.declared.piece.Shape.TheVariants as shape
@@ -12,9 +12,9 @@ use Rattle.mm_token.specs.Causes.{HasCause}
 use Rattle.mm_token.specs.Unit.{state_of, Agrees, Grows}
 
 -- Reading ended for this reason, whose cause is outside where it has to be.
-pub record Ended (held : Option Contents) (P : Type 0) (e : TokenEnd) (faults faults' drawn drawn' : ℕ) : Type 0 where
+pub record Ended (P : Type 0) (e : TokenEnd) (old new : FilesSeen) : Type 0 where
   pub why : Stopped e P
-  pub cause : HasCause held e faults faults' drawn drawn'
+  pub cause : HasCause e old new
 
 -- Reading went on to a state, by no more tokens and files than n and the bytes.
 pub record Went (s : State) (u : Reader) (n : ℕ) (P : State → Type 0) : Type 0 where

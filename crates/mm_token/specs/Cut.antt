@@ -3,6 +3,7 @@ use Rattle.std.specs.Prelude.{◌≡◌, ℕ, ◌<◌, Bool, true, false, not, �
 use lib.Utf8.{scalar as is_character}
 use Rattle.mm_base.specs.declared.place.Place.{Place}
 use Rattle.mm_base.specs.declared.code.Code.{Code}
+use Rattle.mm_base.specs.declared.code.TheConstants.Code.{L1, L2, L3, L5}
 use Rattle.mm_token.specs.declared.piece.Shape.{Shape}
 use Rattle.mm_token.specs.declared.piece.Shape.TheVariants as shape
 use Rattle.mm_token.specs.declared.words.Wrong.{Wrong}
@@ -47,15 +48,11 @@ IsCut fresh text (p ∷ ps) rest = (after : List ℕ) × IsLongest fresh text p.
 
 -- ---- faults
 
--- the codes, as L and 1: no token, a comment without an end, a number out of range, an unknown directive
-abbrev pub lexical : ℕ → Code
-lexical n = record { letter = 76; number = n }
-
 abbrev pub code_of : Wrong → Code
-code_of wrong.NoToken = lexical 1
-code_of wrong.Unclosed = lexical 2
-code_of wrong.Range = lexical 3
-code_of wrong.Directive = lexical 5
+code_of wrong.NoToken = L1
+code_of wrong.Unclosed = L2
+code_of wrong.Range = L3
+code_of wrong.Directive = L5
 
 -- The first number of the text that is no character stands at this place.
 abbrev pub IsSpoiledAt : List ℕ → Place → Place → Type 0

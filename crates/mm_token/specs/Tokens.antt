@@ -5,6 +5,8 @@ use Rattle.std.specs.List.{list_any}
 use Rattle.std.specs.Str.{bytes_eq, encode_utf8_all}
 use Rattle.mm_base.specs.Outside.{Contents}
 use Rattle.mm_base.specs.declared.code.Code.{Code}
+use Rattle.mm_base.specs.declared.code.TheConstants.Code.{L4, L6}
+use Rattle.mm_base.specs.declared.limits.TheConstants.{MAX_UNIT_BYTES, MAX_INCLUDE_DEPTH}
 use Rattle.mm_base.specs.declared.place.Place.{Place}
 use Rattle.mm_token.specs.declared.piece.Shape.{Shape}
 use Rattle.mm_token.specs.declared.piece.Shape.TheVariants as shape
@@ -18,11 +20,7 @@ use Rattle.mm_token.specs.declared.token.TokenEnd.TheVariants.{Absent, Failed, T
 use Rattle.mm_token.specs.Characters.{characters_of, place_after}
 use Rattle.mm_token.specs.Words.{is_among, is_keyword, begins_class, value_of, included_name}
 use Rattle.mm_token.specs.Pieces.{IsLongest}
-use Rattle.mm_token.specs.Cut.{Piece, text_of, fresh_behind, IsCut, IsFault, code_of, lexical}
-
--- the greatest number of bytes, of one file and of a unit with its headers
-abbrev pub byte_limit : ℕ
-byte_limit = 2 ^ 20
+use Rattle.mm_token.specs.Cut.{Piece, text_of, fresh_behind, IsCut, IsFault, code_of}
 
 -- ---- what was read so far
 
@@ -101,7 +99,7 @@ Holds held name bytes = IfSome held (λ h. h name ≡ Some bytes)
 
 -- The file is held, and is within its own limit and that of the unit.
 abbrev pub Fits : Option Contents → List ℕ → List ℕ → State → Type 0
-Fits held name bytes s = Holds held name bytes × (length bytes ≤ byte_limit) × (s.bytes + length bytes ≤ byte_limit)
+Fits held name bytes s = Holds held name bytes × (length bytes ≤ MAX_UNIT_BYTES) × (s.bytes + length bytes ≤ MAX_UNIT_BYTES)
 
 -- what an included file puts: nothing where it was included before
 abbrev pub Includes : (List ℕ → State → State → Type 0) → Option (List ℕ) → State → State → Type 0
@@ -140,14 +138,14 @@ abbrev pub Lacks : Option Contents → List ℕ → Type 0
 Lacks held name = IfSome held (λ h. h name ≡ None)
 
 abbrev pub IsLong : Option Contents → List ℕ → Type 0
-IsLong held name = IfSome held (λ h. (bytes : List ℕ) × (h name ≡ Some bytes) × (byte_limit < length bytes))
+IsLong held name = IfSome held (λ h. (bytes : List ℕ) × (h name ≡ Some bytes) × (MAX_UNIT_BYTES < length bytes))
 
 -- what keeps a file from being begun, which a directive at this place of the file `from` names; a read may fail at any
 abbrev pub KeepsOut : Option Contents → List ℕ → List ℕ → Place → State → TokenEnd → Type 0
 KeepsOut held name from at s (Absent n p) = Lacks held name × (n ≡ name) × (p ≡ at)
 KeepsOut held name from at s (TooLong n) = IsLong held name × (n ≡ name)
 KeepsOut held name from at s (Fault code p n) =
-    (bytes : List ℕ) × Holds held name bytes × (length bytes ≤ byte_limit) × (byte_limit < s.bytes + length bytes) × (code ≡ lexical 6) × (p ≡ at) × (n ≡ from)
+    (bytes : List ℕ) × Holds held name bytes × (length bytes ≤ MAX_UNIT_BYTES) × (MAX_UNIT_BYTES < s.bytes + length bytes) × (code ≡ L6) × (p ≡ at) × (n ≡ from)
 KeepsOut held name from at s (Failed n) = n ≡ name
 KeepsOut held name from at s NoMemory = ⊥
 
@@ -165,16 +163,16 @@ StopsText File Refused name text at s e =
 
 -- how the file of a name is refused, or its text stops, with files included in it fewer than n deep
 abbrev pub Refuses : Option Contents → ℕ → List ℕ → List ℕ → Place → State → TokenEnd → Type 0
-Refuses held zero from name at s e = e ≡ Fault (lexical 4) at from
+Refuses held zero from name at s e = e ≡ Fault (L4) at from
 Refuses held (suc n) from name at s e =
     KeepsOut held name from at s e ⊎
     ((bytes : List ℕ) × Fits held name bytes s × StopsText (PutsFile held n) (Refuses held n name) name (characters_of bytes) (file_start s) (with_file s name (length bytes)) e)
 
 -- ---- a unit
 
--- a unit's own file, and 32 files one in the other
+-- how deep files stand, the unit's own counted
 abbrev pub depth_limit : ℕ
-depth_limit = 33
+depth_limit = MAX_INCLUDE_DEPTH + 1
 
 -- the place of what no directive names
 abbrev pub unit_start : Place
@@ -184,7 +182,7 @@ unit_start = record { file = 0; line = 1; col = 1 }
 abbrev pub Reads : Option Contents → List ℕ → Tokens → Type 0
 Reads held unit t =
     (bytes : List ℕ) × (s : State) × Fits held unit bytes nothing_read
-    × PutsText (PutsFile held 32) (characters_of bytes) unit_start (with_file nothing_read unit (length bytes)) s
+    × PutsText (PutsFile held MAX_INCLUDE_DEPTH) (characters_of bytes) unit_start (with_file nothing_read unit (length bytes)) s
     × (t.files ≡ s.files) × (t.list ≡ s.tokens) × (t.bytes ≡ s.bytes) × (t.end ≡ place_after unit_start (characters_of bytes))
 
 -- a fact on why there are no tokens, where memory didn't run out

@@ -4,23 +4,13 @@ ghost use Rattle.std.specs.Prelude.{◌≡◌, ◌+◌, ◌*◌, ◌<◌, ◌^�
 ghost use Rattle.std.specs.Char.{len_utf8};
 ghost use Rattle.mm_token.specs.Characters.{place_after, is_text};
 ghost use Rattle.mm_token.specs.Words.{is_directive};
-ghost use Rattle.mm_token.specs.Cut.{fresh_after, code_of as coded, lexical as lexical_code, IsGood, IsTrouble, IsFault, IsTaken, IsSpoiledAt};
+ghost use Rattle.mm_token.specs.Cut.{fresh_after, code_of as coded, IsGood, IsTrouble, IsFault, IsTaken, IsSpoiledAt};
 ghost use Rattle.mm_token.specs.declared.words.Wrong.TheVariants.{NoToken};
 
 use crate::piece::{Shape, piece};
 use crate::words::{Wrong, included_name, is_pragma_once, number, text_len};
 use mm_base::code::Code;
 use mm_base::place::Place;
-
-/// A lexical fault of this number.
-pub fn lexical(number: u32) -> Code
-    ensures { result ≡ lexical_code number }
-{
-    Code {
-        letter: b'L',
-        number,
-    }
-}
 
 impl Wrong {
     ghost use Rattle.std.specs.Prelude.{◌≡◌};
@@ -31,10 +21,10 @@ impl Wrong {
         ensures { result ≡ code_of self }
     {
         match self {
-            Wrong::NoToken => lexical(1),
-            Wrong::Unclosed => lexical(2),
-            Wrong::Range => lexical(3),
-            Wrong::Directive => lexical(5),
+            Wrong::NoToken => Code::L1,
+            Wrong::Unclosed => Code::L2,
+            Wrong::Range => Code::L3,
+            Wrong::Directive => Code::L5,
         }
     }
 }

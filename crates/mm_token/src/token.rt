@@ -1,11 +1,13 @@
 // A unit's tokens.
 
-ghost use Rattle.std.specs.Prelude.{◌+◌, ◌^◌, ◌≤◌, length};
+ghost use Rattle.std.specs.Prelude.{◌+◌, ◌≤◌, length};
+ghost use Rattle.mm_base.specs.declared.limits.TheConstants.{MAX_UNIT_BYTES};
 
 use mm_base::code::Code;
 use mm_base::place::Place;
 use mm_base::text::Text;
 use sqlite_items::Items;
+use std::alloc::AllocError;
 
 /// What sort of token a piece of text is.
 #[derive(Clone, Copy, Debug, PartialEq, Eq)]
@@ -46,7 +48,7 @@ pub struct Tokens {
     pub ghost few: { length list ≤ bytes },
     pub ghost some: { 1 ≤ length files },
     pub ghost each: { length files ≤ bytes + 1 },
-    pub ghost limited: { bytes ≤ 2 ^ 20 },
+    pub ghost limited: { bytes ≤ MAX_UNIT_BYTES },
 }
 
 /// Why a unit has no tokens.
@@ -61,4 +63,15 @@ pub enum TokenEnd {
     /// A fault of the text, its place, and the name of the file where that is.
     Fault(Code, Place, Text),
     NoMemory,
+}
+
+impl From<AllocError> for TokenEnd {
+    ghost use Rattle.std.specs.Prelude.{◌≡◌};
+    ghost use Rattle.mm_token.specs.declared.token.TokenEnd.TheVariants.{NoMemory};
+
+    ghost from_gives = { λ _ end. end ≡ NoMemory };
+
+    fn from(_error: AllocError) -> TokenEnd {
+        TokenEnd::NoMemory
+    }
 }

@@ -2,12 +2,12 @@
 use Rattle.std.proofs.Common.{◌≡◌, ◌⊎◌, ℕ, ◌+◌, List, [], length, Option, Some, None, refl, sym, ap, ◌∙◌, subst, inl, inr, arith}
 use Rattle.std.specs.Prelude.{codes}
 use Rattle.std.proofs.lemmas.List.{take_all}
-use Rattle.mm_base.specs.Outside.{Contents, grown}
+use Rattle.mm_base.specs.Outside.{Contents, FilesSeen, SinkSeen, grown}
 use Rattle.mm_base.proofs.Grown.{grown_nil}
 use Rattle.mm_check_unit.specs.declared.first.Stmt.{Stmt}
 use Rattle.mm_top.specs.declared.link.Ending.{Ending}
 use Rattle.mm_top.specs.declared.link.Ending.TheVariants as ending
-use Rattle.mm_top.specs.Headline.{FilesSeen, SinkSeen, FilesFailed, SinkFailed, IsSame, Grew, GrewFront, IsSound, Fault, IsFaulty, IsAbsent, IsLong, Due, Linked, fault_message, message_of, status_of, usage_message, IsMessage, for_no_command, for_file, Says, Reports, Answers}
+use Rattle.mm_top.specs.Headline.{Change, FilesFailed, SinkFailed, IsSame, Grew, GrewFront, IsSound, Fault, IsFaulty, IsAbsent, IsLong, Due, Linked, fault_message, message_of, status_of, usage_message, IsMessage, for_no_command, for_file, Says, Reports, Answers}
 use Rattle.mm_top.proofs.Told.{Told, is_sound, is_faulty, is_absent, is_long, is_none, Tells, one_telling, sound_tells, fault_tells, absent_tells, long_tells}
 
 same_name : (asked : Option (List ℕ)) (a b : List ℕ) → asked ≡ Some a → asked ≡ Some b → a ≡ b
@@ -32,11 +32,11 @@ end_told ending.WriteFailed = is_sound
 end_told ending.NoMemory = is_none
 
 -- how the status of an end goes with what is told: it is the status of that, or a write failed of a text that was due
-abbrev pub Matches : Ending → SinkSeen → Told → Type 0
+abbrev pub Matches : Ending → Change SinkSeen → Told → Type 0
 Matches e out v = (status_of e ≡ status_for v) ⊎ ((status_for v ≡ 0) × SinkFailed out)
 
 -- what an end tells, where no read failed and the files tell what they hold
-case_of : (e : Ending) (name : List ℕ) (files : FilesSeen) (out : SinkSeen) (h : Contents) → files.held ≡ Some h → Linked e name files out → (FilesFailed files → ⊥) → (Tells h name (end_told e) × Matches e out (end_told e)) ⊎ (e ≡ ending.NoMemory)
+case_of : (e : Ending) (name : List ℕ) (files : Change FilesSeen) (out : Change SinkSeen) (h : Contents) → files.old.held ≡ Some h → Linked e name files out → (FilesFailed files → ⊥) → (Tells h name (end_told e) × Matches e out (end_told e)) ⊎ (e ≡ ending.NoMemory)
 case_of ending.Done name files out h e l no_read = inl (sound_tells h name l.1.0 (subst (λ o. IsSound o name l.1.0) e l.1.2), inl refl)
 case_of (ending.Fault code place file) name files out h e l no_read =
     let f : Fault = record { code = code; place = place; file = file } in
@@ -48,7 +48,7 @@ case_of ending.WriteFailed name files out h e l no_read = inl (sound_tells h nam
 case_of ending.NoMemory name files out h e l no_read = inr refl
 
 -- the status is that of what is told, or memory ran out
-exactly : (e : Ending) (name : List ℕ) (files : FilesSeen) (out : SinkSeen) (h : Contents) (status : ℕ) → files.held ≡ Some h → Linked e name files out → status ≡ status_of e → (v : Told) → Tells h name v → (FilesFailed files → ⊥) → (status_for v ≡ 0 → SinkFailed out → ⊥) → (status ≡ status_for v) ⊎ (status ≡ 9)
+exactly : (e : Ending) (name : List ℕ) (files : Change FilesSeen) (out : Change SinkSeen) (h : Contents) (status : ℕ) → files.old.held ≡ Some h → Linked e name files out → status ≡ status_of e → (v : Told) → Tells h name v → (FilesFailed files → ⊥) → (status_for v ≡ 0 → SinkFailed out → ⊥) → (status ≡ status_for v) ⊎ (status ≡ 9)
 exactly e name files out h status held l s v t no_read no_write = by (case_of e name files out h held l no_read)
   where
     by : (Tells h name (end_told e) × Matches e out (end_told e)) ⊎ (e ≡ ending.NoMemory) → (status ≡ status_for v) ⊎ (status ≡ 9)
@@ -67,7 +67,7 @@ fault_end ending.WriteFailed f t = absurd (let x : ⊥ = cc in x)
 fault_end ending.NoMemory f t = absurd (let x : ⊥ = cc in x)
 
 -- a unit's first fault is said, or memory ran out
-exact_fault : (e : Ending) (name : List ℕ) (files : FilesSeen) (out err : SinkSeen) (h : Contents) (status : ℕ) (f : Fault) → files.held ≡ Some h → Linked e name files out → status ≡ status_of e → Says (message_of e) err → IsFaulty (Some h) name f → (FilesFailed files → ⊥) → ((status ≡ 1) × Says (fault_message f.code f.place f.file) err) ⊎ (status ≡ 9)
+exact_fault : (e : Ending) (name : List ℕ) (files : Change FilesSeen) (out err : Change SinkSeen) (h : Contents) (status : ℕ) (f : Fault) → files.old.held ≡ Some h → Linked e name files out → status ≡ status_of e → Says (message_of e) err → IsFaulty (Some h) name f → (FilesFailed files → ⊥) → ((status ≡ 1) × Says (fault_message f.code f.place f.file) err) ⊎ (status ≡ 9)
 exact_fault e name files out err h status f held l s says is no_read = by (case_of e name files out h held l no_read)
   where
     by : (Tells h name (end_told e) × Matches e out (end_told e)) ⊎ (e ≡ ending.NoMemory) → ((status ≡ 1) × Says (fault_message f.code f.place f.file) err) ⊎ (status ≡ 9)
@@ -75,20 +75,20 @@ exact_fault e name files out err h status f held l s says is no_read = by (case_
     by (inr n) = inr (s ∙ ap status_of n)
 
 -- an empty message leaves err as it was
-quiet : (err : SinkSeen) → Says [] err → IsSame err
-quiet err (inl e) = e ∙ grown_nil err.got
-quiet err (inr (f, r)) = f.2 ∙ ap (grown err.got) (take_all f.0 [] (omega arith)) ∙ grown_nil err.got
+quiet : (err : Change SinkSeen) → Says [] err → IsSame err
+quiet err (inl e) = e ∙ grown_nil err.old.got
+quiet err (inr (f, r)) = f.2 ∙ ap (grown err.old.got) (take_all f.0 [] (omega arith)) ∙ grown_nil err.old.got
 
 -- a whole text is a front of itself
-whole : (text : List ℕ) (s : SinkSeen) → Grew text s → GrewFront text s
-whole text s e = (length text, omega arith, e ∙ ap (grown s.got) (sym (take_all (length text) text (omega arith))))
+whole : (text : List ℕ) (s : Change SinkSeen) → Grew text s → GrewFront text s
+whole text s e = (length text, omega arith, e ∙ ap (grown s.old.got) (sym (take_all (length text) text (omega arith))))
 
-said_front : (message : List ℕ) (err : SinkSeen) → Says message err → GrewFront message err
+said_front : (message : List ℕ) (err : Change SinkSeen) → Says message err → GrewFront message err
 said_front message err (inl e) = whole message err e
 said_front message err (inr (f, r)) = f
 
 -- what stands on out after an end
-out_front : (e : Ending) (name : List ℕ) (files : FilesSeen) (out : SinkSeen) → Linked e name files out → IsSame out ⊎ ((text : List ℕ) × Due files.held name text × GrewFront text out)
+out_front : (e : Ending) (name : List ℕ) (files : Change FilesSeen) (out : Change SinkSeen) → Linked e name files out → IsSame out ⊎ ((text : List ℕ) × Due files.old.held name text × GrewFront text out)
 out_front ending.Done name files out l = inr (l.0, l.1, whole l.0 out l.2)
 out_front (ending.Fault code place file) name files out l = inl l.0
 out_front (ending.Absent file) name files out l = inl l.0
@@ -97,9 +97,9 @@ out_front (ending.TooLong file) name files out l = inl l.0
 out_front ending.WriteFailed name files out l = inr (l.0, l.1, l.2)
 out_front ending.NoMemory name files out l = l
 
-module _ (status : ℕ) (asked : Option (List ℕ)) (files : FilesSeen) (out err : SinkSeen) where
+module _ (status : ℕ) (asked : Option (List ℕ)) (files : Change FilesSeen) (out err : Change SinkSeen) where
   abbrev OutFront : Type 0
-  OutFront = IsSame out ⊎ ((name : List ℕ) × (asked ≡ Some name) × (text : List ℕ) × Due files.held name text × GrewFront text out)
+  OutFront = IsSame out ⊎ ((name : List ℕ) × (asked ≡ Some name) × (text : List ℕ) × Due files.old.held name text × GrewFront text out)
 
   abbrev ErrFront : Type 0
   ErrFront = (message : List ℕ) × (IsMessage asked message ⊎ (message ≡ codes "mmc: no memory\n")) × GrewFront message err
@@ -150,16 +150,16 @@ module _ (status : ℕ) (asked : Option (List ℕ)) (files : FilesSeen) (out err
     linked : (other : List ℕ) → asked ≡ Some other → Linked e other files out
     linked other f = subst (λ n. Linked e n files out) (same_name asked name other a f) l
 
-    is_complete : (h : Contents) (other : List ℕ) (ss : List Stmt) → files.held ≡ Some h → asked ≡ Some other → IsSound (Some h) other ss → (FilesFailed files → ⊥) → (SinkFailed out → ⊥) → (status ≡ 0) ⊎ (status ≡ 9)
+    is_complete : (h : Contents) (other : List ℕ) (ss : List Stmt) → files.old.held ≡ Some h → asked ≡ Some other → IsSound (Some h) other ss → (FilesFailed files → ⊥) → (SinkFailed out → ⊥) → (status ≡ 0) ⊎ (status ≡ 9)
     is_complete h other ss held f x no_read no_write = exactly e other files out h status held (linked other f) s is_sound (sound_tells h other ss x) no_read (λ z. no_write)
 
-    is_refused : (h : Contents) (other : List ℕ) (g : Fault) → files.held ≡ Some h → asked ≡ Some other → IsFaulty (Some h) other g → (FilesFailed files → ⊥) → ((status ≡ 1) × Says (fault_message g.code g.place g.file) err) ⊎ (status ≡ 9)
+    is_refused : (h : Contents) (other : List ℕ) (g : Fault) → files.old.held ≡ Some h → asked ≡ Some other → IsFaulty (Some h) other g → (FilesFailed files → ⊥) → ((status ≡ 1) × Says (fault_message g.code g.place g.file) err) ⊎ (status ≡ 9)
     is_refused h other g held f x no_read = exact_fault e other files out err h status g held (linked other f) s says x no_read
 
-    is_past : (h : Contents) (other file : List ℕ) → files.held ≡ Some h → asked ≡ Some other → IsLong (Some h) other file → (FilesFailed files → ⊥) → (status ≡ 13) ⊎ (status ≡ 9)
+    is_past : (h : Contents) (other file : List ℕ) → files.old.held ≡ Some h → asked ≡ Some other → IsLong (Some h) other file → (FilesFailed files → ⊥) → (status ≡ 13) ⊎ (status ≡ 9)
     is_past h other file held f x no_read = exactly e other files out h status held (linked other f) s is_long (long_tells h other file x) no_read (λ z failed. omega (arith, z))
 
-    is_missing : (h : Contents) (other file : List ℕ) → files.held ≡ Some h → asked ≡ Some other → IsAbsent (Some h) other file → (FilesFailed files → ⊥) → (status ≡ 3) ⊎ (status ≡ 9)
+    is_missing : (h : Contents) (other file : List ℕ) → files.old.held ≡ Some h → asked ≡ Some other → IsAbsent (Some h) other file → (FilesFailed files → ⊥) → (status ≡ 3) ⊎ (status ≡ 9)
     is_missing h other file held f x no_read = exactly e other files out h status held (linked other f) s is_absent (absent_tells h other file x) no_read (λ z failed. omega (arith, z))
 
     is_command : asked ≡ None → (status ≡ 2) ⊎ (status ≡ 9)
@@ -168,7 +168,7 @@ module _ (status : ℕ) (asked : Option (List ℕ)) (files : FilesSeen) (out err
   named_front : (e : Ending) (name : List ℕ) → asked ≡ Some name → Linked e name files out → OutFront
   named_front e name a l = by (out_front e name files out l)
     where
-      by : IsSame out ⊎ ((text : List ℕ) × Due files.held name text × GrewFront text out) → OutFront
+      by : IsSame out ⊎ ((text : List ℕ) × Due files.old.held name text × GrewFront text out) → OutFront
       by (inl o) = inl o
       by (inr t) = inr (name, a, t.0, t.1, t.2)
 

@@ -1,8 +1,9 @@
 -- How a linking ends, and what is due.
 use Rattle.std.proofs.Common.{◌≡◌, ℕ, ◌≤◌, ◌⊎◌, ◌^◌, List, Option, Some, None, refl, sym, ◌∙◌, subst, inl, inr, arith}
 use Rattle.std.specs.Prelude.{IfNone, MatchOption, ◌+◌}
-use Rattle.mm_base.specs.Outside.{Contents, Rose, RoseBy}
+use Rattle.mm_base.specs.Outside.{Contents, FilesSeen}
 use Rattle.mm_base.specs.declared.code.Code.{Code}
+use Rattle.mm_base.specs.declared.code.TheConstants.Code.{N0, P5}
 use Rattle.mm_base.specs.declared.place.Place.{Place}
 use Rattle.mm_c.specs.Tree as c
 use Rattle.mm_c.specs.WellFormed.{IsWellFormed}
@@ -13,7 +14,7 @@ use Rattle.mm_lower.proofs.Fits.{well_formed}
 use Rattle.mm_lower.proofs.Programs.{translates}
 use Rattle.mm_token.specs.declared.token.Tokens.{Tokens}
 use Rattle.mm_token.specs.declared.token.TokenEnd.TheVariants.{Absent, Failed, TooLong, Fault}
-use Rattle.mm_token.specs.Tokens.{byte_limit, unit_start, Reads, IsRefused}
+use Rattle.mm_token.specs.Tokens.{unit_start, Reads, IsRefused}
 use Rattle.mm_token.specs.Causes.{HasCause}
 use Rattle.mm_syntax.specs.declared.decl.Unit.{Unit as UnitTree}
 use Rattle.mm_syntax.specs.Forms.{all_forms, first_of, shown_unit}
@@ -23,7 +24,7 @@ use Rattle.mm_check_unit.specs.First.{checked, statements_of}
 use Rattle.mm_check_unit.specs.Laws.{IsBuilt}
 use Rattle.mm_top.specs.declared.link.Ending.{Ending}
 use Rattle.mm_top.specs.declared.link.Ending.TheVariants as ending
-use Rattle.mm_top.specs.Headline.{FilesSeen, IsFaulty, IsDue, Due, file_of, n0, p5}
+use Rattle.mm_top.specs.Headline.{Change, FilesFailed, DrewTooMuch, IsFaulty, IsDue, Due, file_of}
 use Rattle.mm_top.specs.Linking.{Ends, EndsFor, EndsForTree, IsFirst, AreFirst}
 use Rattle.mm_check_unit.proofs.Built.{built_is_first}
 use Rattle.mm_check_unit.proofs.Valid.{first_is_valid}
@@ -37,16 +38,16 @@ untold : (held : Option Contents) (P : Type 0) → MatchOption held P (λ _. Uni
 untold None P why = why
 untold (Some h) P why = tt
 
-pub absent_end : (f : FilesSeen) (name file : List ℕ) (place : Place) → IsRefused f.held name (Absent file place) → HasCause f.held (Absent file place) f.faults f.faults' f.drawn f.drawn' → Ends (ending.Absent file) name f
-absent_end f name file place r why = λ out same. (same, (place, r), untold f.held (Rose f.faults f.faults') why)
+pub absent_end : (f : Change FilesSeen) (name file : List ℕ) (place : Place) → IsRefused f.old.held name (Absent file place) → HasCause (Absent file place) f.old f.new → Ends (ending.Absent file) name f
+absent_end f name file place r why = λ out same. (same, (place, r), untold f.old.held (FilesFailed f) why)
 
-pub long_end : (f : FilesSeen) (name file : List ℕ) → IsRefused f.held name (TooLong file) → HasCause f.held (TooLong file) f.faults f.faults' f.drawn f.drawn' → Ends (ending.TooLong file) name f
-long_end f name file r why = λ out same. (same, r, untold f.held (RoseBy (byte_limit + 1) f.drawn f.drawn') why)
+pub long_end : (f : Change FilesSeen) (name file : List ℕ) → IsRefused f.old.held name (TooLong file) → HasCause (TooLong file) f.old f.new → Ends (ending.TooLong file) name f
+long_end f name file r why = λ out same. (same, r, untold f.old.held (DrewTooMuch f) why)
 
-pub failed_end : (f : FilesSeen) (name file : List ℕ) → IsRefused f.held name (Failed file) → HasCause f.held (Failed file) f.faults f.faults' f.drawn f.drawn' → Ends (ending.ReadFailed file) name f
+pub failed_end : (f : Change FilesSeen) (name file : List ℕ) → IsRefused f.old.held name (Failed file) → HasCause (Failed file) f.old f.new → Ends (ending.ReadFailed file) name f
 failed_end f name file r why = λ out same. (same, r, why)
 
-pub lexical_end : (f : FilesSeen) (name file : List ℕ) (code : Code) (place : Place) → IsRefused f.held name (Fault code place file) → Ends (ending.Fault code place file) name f
+pub lexical_end : (f : Change FilesSeen) (name file : List ℕ) (code : Code) (place : Place) → IsRefused f.old.held name (Fault code place file) → Ends (ending.Fault code place file) name f
 lexical_end f name file code place r = λ out same. (same, inl r)
 
 -- ---- with tokens
@@ -58,20 +59,20 @@ module _ (name : List ℕ) (tokens : Tokens) where
 
   -- an end that names this fault, or want of memory
   fault_end : (e : Ending) (code : Code) (place : Place) (file : List ℕ) → IsFault code place file → (e ≡ ending.Fault code place file) ⊎ (e ≡ ending.NoMemory) → EndsFor e name tokens
-  fault_end e code place file f (inl is) = subst (λ x. EndsFor x name tokens) (sym is) (λ files r out same. (same, f files.held r))
+  fault_end e code place file f (inl is) = subst (λ x. EndsFor x name tokens) (sym is) (λ files r out same. (same, f files.old.held r))
   fault_end e code place file f (inr is) = subst (λ x. EndsFor x name tokens) (sym is) (λ files r out same. inl same)
 
   pub syntax_end : (e : Ending) (code : Code) (place : Place) → IsSyntaxFault tokens.list tokens.end code place → (e ≡ ending.Fault code place (file_of tokens.files place)) ⊎ (e ≡ ending.NoMemory) → EndsFor e name tokens
   syntax_end e code place f = fault_end e code place (file_of tokens.files place) (λ h r. inr (inl (tokens, r, f, refl)))
 
-  pub unbuilt_end : (e : Ending) (tree : UnitTree) (place : Place) → first_of all_forms (shown_unit tree).marks ≡ Some place → (e ≡ ending.Fault n0 place (file_of tokens.files place)) ⊎ (e ≡ ending.NoMemory) → EndsForTree e name tokens tree
-  unbuilt_end e tree place first is = λ t. fault_end e n0 place (file_of tokens.files place) (λ h r. inr (inr (inl (tokens, tree, record { reads = r; is_tree = t }, first, refl, refl)))) is
+  pub unbuilt_end : (e : Ending) (tree : UnitTree) (place : Place) → first_of all_forms (shown_unit tree).marks ≡ Some place → (e ≡ ending.Fault N0 place (file_of tokens.files place)) ⊎ (e ≡ ending.NoMemory) → EndsForTree e name tokens tree
+  unbuilt_end e tree place first is = λ t. fault_end e N0 place (file_of tokens.files place) (λ h r. inr (inr (inl (tokens, tree, record { reads = r; is_tree = t }, first, refl, refl)))) is
 
   none_or_some : (tree : UnitTree) → IsBuilt tree → statements_of tree ≡ None → (ss : List Stmt) × (statements_of tree ≡ Some ss) → ⊥
   none_or_some tree b n (ss, s) = let e : None ≡ Some ss = sym n ∙ s in cc
 
-  pub mainless_end : (e : Ending) (tree : UnitTree) → IsBuilt tree → statements_of tree ≡ None → (e ≡ ending.Fault p5 unit_start name) ⊎ (e ≡ ending.NoMemory) → EndsForTree e name tokens tree
-  mainless_end e tree b n is = λ t. fault_end e p5 unit_start name (λ h r. inr (inr (inr (tokens, tree, record { reads = r; is_tree = t }, b, (λ m. none_or_some tree b n (built_is_first tree b m)), refl, refl, refl)))) is
+  pub mainless_end : (e : Ending) (tree : UnitTree) → IsBuilt tree → statements_of tree ≡ None → (e ≡ ending.Fault P5 unit_start name) ⊎ (e ≡ ending.NoMemory) → EndsForTree e name tokens tree
+  mainless_end e tree b n is = λ t. fault_end e P5 unit_start name (λ h r. inr (inr (inr (tokens, tree, record { reads = r; is_tree = t }, b, (λ m. none_or_some tree b n (built_is_first tree b m)), refl, refl, refl)))) is
 
 -- ---- sound units
 

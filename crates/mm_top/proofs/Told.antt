@@ -2,6 +2,7 @@
 use Rattle.std.proofs.Common.{◌≡◌, ℕ, List, Option, Some, None, refl, sym, ap, ap₂, ◌∙◌, subst, inl, inr}
 use Rattle.mm_base.specs.Outside.{Contents}
 use Rattle.mm_base.specs.declared.code.Code.{Code}
+use Rattle.mm_base.specs.declared.code.TheConstants.Code.{N0, P5}
 use Rattle.mm_base.specs.declared.place.Place.{Place}
 use Rattle.mm_token.specs.declared.token.Tokens.{Tokens}
 use Rattle.mm_token.specs.declared.token.TokenEnd.{TokenEnd}
@@ -17,7 +18,7 @@ use Rattle.mm_parse_unit.specs.Units.{IsUnit, IsSyntaxFault}
 use Rattle.mm_check_unit.specs.declared.first.Stmt.{Stmt}
 use Rattle.mm_check_unit.specs.First.{statements_of}
 use Rattle.mm_check_unit.specs.Laws.{IsBuilt, DefinesMain}
-use Rattle.mm_top.specs.Headline.{IsRead, IsSound, Fault, IsFaulty, IsAbsent, IsLong, file_of, n0, p5}
+use Rattle.mm_top.specs.Headline.{IsRead, IsSound, Fault, IsFaulty, IsAbsent, IsLong, file_of}
 use Rattle.mm_parse_unit.proofs.OneAnswer.{one_unit, one_fault, not_both}
 use Rattle.mm_top.proofs.Mains.{first_has_main}
 
@@ -42,13 +43,13 @@ abbrev pub at_place : List (List ℕ) → Code → Place → Told
 at_place files code place = is_faulty (record { code = code; place = place; file = file_of files place })
 
 abbrev pub by_statements : List ℕ → Option (List Stmt) → Told
-by_statements name None = is_faulty (record { code = p5; place = unit_start; file = name })
+by_statements name None = is_faulty (record { code = P5; place = unit_start; file = name })
 by_statements name (Some ss) = is_sound
 
 -- what a tree tells, by its first tree of a form
 abbrev pub by_first : List ℕ → List (List ℕ) → UnitTree → Option Place → Told
 by_first name files tree None = by_statements name (statements_of tree)
-by_first name files tree (Some place) = at_place files n0 place
+by_first name files tree (Some place) = at_place files N0 place
 
 abbrev pub by_tree : List ℕ → List (List ℕ) → UnitTree → Told
 by_tree name files tree = by_first name files tree (first_of all_forms (shown_unit tree).marks)
@@ -128,8 +129,8 @@ module _ (h : Contents) (name : List ℕ) where
   pub fault_tells : (f : Fault) → IsFaulty (Some h) name f → Tells (is_faulty f)
   fault_tells f (inl r) = (refused (token_end.Fault f.code f.place f.file) tt r, refl)
   fault_tells f (inr (inl (t, r, s, n))) = (faulty t f.code f.place r s, fault_is f f.code f.place (file_of t.files f.place) refl refl n)
-  fault_tells f (inr (inr (inl (t, tree, r, first, c, n)))) = (treed t tree r, ap (by_first name t.files tree) first ∙ fault_is f n0 f.place (file_of t.files f.place) c refl n)
-  fault_tells f (inr (inr (inr (t, tree, r, b, m, c, p, n)))) = (treed t tree r, built_tells tree t.files None b (no_statements tree (statements_of tree) refl m) ∙ fault_is f p5 unit_start name c p n)
+  fault_tells f (inr (inr (inl (t, tree, r, first, c, n)))) = (treed t tree r, ap (by_first name t.files tree) first ∙ fault_is f N0 f.place (file_of t.files f.place) c refl n)
+  fault_tells f (inr (inr (inr (t, tree, r, b, m, c, p, n)))) = (treed t tree r, built_tells tree t.files None b (no_statements tree (statements_of tree) refl m) ∙ fault_is f P5 unit_start name c p n)
 
   pub absent_tells : (file : List ℕ) → IsAbsent (Some h) name file → Tells is_absent
   absent_tells file (place, r) = (refused (token_end.Absent file place) tt r, refl)

@@ -1,16 +1,20 @@
 -- What `link` promises. (Own.)
 use Rattle.std.specs.Prelude.{◌≡◌, ◌⊎◌, ℕ, ◌+◌, ◌==◌, if◌then◌else◌, List, [], ◌∷◌, ◌++◌, get_or, Option, Some, None, IfNone, codes}
 use Rattle.std.specs.Fmt.{decimal}
-use Rattle.mm_base.specs.Outside.{Contents, Rose, RoseBy, grown, PutsFront}
+use Rattle.mm_base.specs.Outside.{Contents, FilesSeen, SinkSeen, Rose, RoseBy}
+use Rattle.mm_base.specs.Outside as outside
 use Rattle.mm_core.specs.Tree.{program_of}
 use Rattle.mm_c.specs.Tree as c
 use Rattle.mm_c.specs.Spelling.{SpellsProgram}
 use Rattle.mm_agree.specs.Translates.{Translates}
 use Rattle.mm_base.specs.declared.code.Code.{Code}
+use Rattle.mm_base.specs.declared.code.TheConstants.{PRELINK}
+use Rattle.mm_base.specs.declared.code.TheConstants.Code.{N0, P5}
+use Rattle.mm_base.specs.declared.limits.TheConstants.{MAX_UNIT_BYTES}
 use Rattle.mm_base.specs.declared.place.Place.{Place}
 use Rattle.mm_token.specs.declared.token.Tokens.{Tokens}
 use Rattle.mm_token.specs.declared.token.TokenEnd.TheVariants as token_end
-use Rattle.mm_token.specs.Tokens.{byte_limit, unit_start, Reads, IsRefused}
+use Rattle.mm_token.specs.Tokens.{unit_start, Reads, IsRefused}
 use Rattle.mm_syntax.specs.declared.decl.Unit.{Unit as UnitTree}
 use Rattle.mm_syntax.specs.Forms.{all_forms, first_of, shown_unit}
 use Rattle.mm_parse_unit.specs.Units.{IsTreeOf, IsSyntaxFault}
@@ -20,40 +24,34 @@ use Rattle.mm_check_unit.specs.Laws.{IsBuilt, DefinesMain}
 use Rattle.mm_top.specs.declared.link.Ending.{Ending}
 use Rattle.mm_top.specs.declared.link.Ending.TheVariants as ending
 
--- ---- the objects of the outside, before and after a call
+-- ---- the objects of the outside
 
--- Files: what they hold, where they tell it, and their counts of faults and of bytes drawn.
-pub record FilesSeen : Type 0 where
-  pub held : Option Contents
-  pub faults : ℕ
-  pub faults' : ℕ
-  pub drawn : ℕ
-  pub drawn' : ℕ
+-- what was seen of an object before a call, and what is seen of it after the call
+pub record Change (Seen : Type 0) : Type 0 where
+  pub old : Seen
+  pub new : Seen
 
--- An output: what was put, where it tells it, and its count of faults.
-pub record SinkSeen : Type 0 where
-  pub got : Option (List ℕ)
-  pub got' : Option (List ℕ)
-  pub faults : ℕ
-  pub faults' : ℕ
+abbrev pub FilesFailed : Change FilesSeen → Type 0
+FilesFailed f = Rose f.old.faults f.new.faults
 
-abbrev pub FilesFailed : FilesSeen → Type 0
-FilesFailed f = Rose f.faults f.faults'
+-- more was read of them than a file may have
+abbrev pub DrewTooMuch : Change FilesSeen → Type 0
+DrewTooMuch f = RoseBy (MAX_UNIT_BYTES + 1) f.old.drawn f.new.drawn
 
-abbrev pub SinkFailed : SinkSeen → Type 0
-SinkFailed s = Rose s.faults s.faults'
+abbrev pub SinkFailed : Change SinkSeen → Type 0
+SinkFailed s = Rose s.old.faults s.new.faults
 
 -- the output is as it was
-abbrev pub IsSame : SinkSeen → Type 0
-IsSame s = s.got' ≡ s.got
+abbrev pub IsSame : Change SinkSeen → Type 0
+IsSame s = s.new.got ≡ s.old.got
 
 -- it grew by exactly this text
-abbrev pub Grew : List ℕ → SinkSeen → Type 0
-Grew text s = s.got' ≡ grown s.got text
+abbrev pub Grew : List ℕ → Change SinkSeen → Type 0
+Grew text s = outside.Grew text s.old s.new
 
 -- it grew by a front of this text
-abbrev pub GrewFront : List ℕ → SinkSeen → Type 0
-GrewFront text s = PutsFront text s.got s.got'
+abbrev pub GrewFront : List ℕ → Change SinkSeen → Type 0
+GrewFront text s = outside.GrewFront text s.old s.new
 
 -- ---- the units
 
@@ -79,13 +77,6 @@ pub record Fault : Type 0 where
   pub place : Place
   pub file : List ℕ
 
--- a tree whose form isn't built; no `int main()`
-abbrev pub n0 : Code
-n0 = record { letter = 78; number = 0 }
-
-abbrev pub p5 : Code
-p5 = record { letter = 80; number = 5 }
-
 -- the name of the file in which a place is
 abbrev pub file_of : List (List ℕ) → Place → List ℕ
 file_of files place = get_or files place.file []
@@ -100,11 +91,11 @@ IsSyntactic held name f = (tokens : Tokens) × Reads held name tokens × IsSynta
 
 -- A tree stands in the unit whose form isn't built, the first of them here.
 abbrev pub IsUnbuilt : Option Contents → List ℕ → Fault → Type 0
-IsUnbuilt held name f = (tokens : Tokens) × (tree : UnitTree) × IsRead held name tokens tree × (first_of all_forms (shown_unit tree).marks ≡ Some f.place) × (f.code ≡ n0) × (f.file ≡ file_of tokens.files f.place)
+IsUnbuilt held name f = (tokens : Tokens) × (tree : UnitTree) × IsRead held name tokens tree × (first_of all_forms (shown_unit tree).marks ≡ Some f.place) × (f.code ≡ N0) × (f.file ≡ file_of tokens.files f.place)
 
 -- Each tree is built, and no `int main()` is defined; at 1:1 of the unit.
 abbrev pub IsMainless : Option Contents → List ℕ → Fault → Type 0
-IsMainless held name f = (tokens : Tokens) × (tree : UnitTree) × IsRead held name tokens tree × IsBuilt tree × (DefinesMain tree → ⊥) × (f.code ≡ p5) × (f.place ≡ unit_start) × (f.file ≡ name)
+IsMainless held name f = (tokens : Tokens) × (tree : UnitTree) × IsRead held name tokens tree × IsBuilt tree × (DefinesMain tree → ⊥) × (f.code ≡ P5) × (f.place ≡ unit_start) × (f.file ≡ name)
 
 -- The unit's first listed fault, in the order in which they count.
 abbrev pub IsFaulty : Option Contents → List ℕ → Fault → Type 0
@@ -134,14 +125,14 @@ Due held name text = (ss : List Stmt) × IsDue ss text × IsSound held name ss
 -- ---- how the linking of a file ends
 
 -- What each end says of the files and the output.
-abbrev pub Linked : Ending → List ℕ → FilesSeen → SinkSeen → Type 0
-Linked ending.Done name files out = (text : List ℕ) × Due files.held name text × Grew text out
-Linked (ending.Fault code place file) name files out = IsSame out × IsFaulty files.held name (record { code = code; place = place; file = file })
-Linked (ending.Absent file) name files out = IsSame out × IsAbsent files.held name file × IfNone files.held (FilesFailed files)
-Linked (ending.ReadFailed file) name files out = IsSame out × IsUnread files.held name file × FilesFailed files
-Linked (ending.TooLong file) name files out = IsSame out × IsLong files.held name file × IfNone files.held (RoseBy (byte_limit + 1) files.drawn files.drawn')
-Linked ending.WriteFailed name files out = (text : List ℕ) × Due files.held name text × GrewFront text out × SinkFailed out
-Linked ending.NoMemory name files out = IsSame out ⊎ ((text : List ℕ) × Due files.held name text × GrewFront text out)
+abbrev pub Linked : Ending → List ℕ → Change FilesSeen → Change SinkSeen → Type 0
+Linked ending.Done name files out = (text : List ℕ) × Due files.old.held name text × Grew text out
+Linked (ending.Fault code place file) name files out = IsSame out × IsFaulty files.old.held name (record { code = code; place = place; file = file })
+Linked (ending.Absent file) name files out = IsSame out × IsAbsent files.old.held name file × IfNone files.old.held (FilesFailed files)
+Linked (ending.ReadFailed file) name files out = IsSame out × IsUnread files.old.held name file × FilesFailed files
+Linked (ending.TooLong file) name files out = IsSame out × IsLong files.old.held name file × IfNone files.old.held (DrewTooMuch files)
+Linked ending.WriteFailed name files out = (text : List ℕ) × Due files.old.held name text × GrewFront text out × SinkFailed out
+Linked ending.NoMemory name files out = IsSame out ⊎ ((text : List ℕ) × Due files.old.held name text × GrewFront text out)
 
 abbrev pub status_of : Ending → ℕ
 status_of ending.Done = 0
@@ -158,9 +149,9 @@ status_of ending.NoMemory = 9
 abbrev pub code_text : Code → List ℕ
 code_text code = code.letter ∷ decimal code.number
 
--- what follows the code: those of letter P name what they are about, which today is `main`
+-- what follows the code: the faults of all units together name what they are about, which today is `main`
 abbrev pub behind : Code → List ℕ
-behind code = if code.letter == 80 then codes " main" else []
+behind code = if code.letter == PRELINK then codes " main" else []
 
 -- FILE:LINE:COLUMN: CODE
 abbrev pub fault_message : Code → Place → List ℕ → List ℕ
@@ -185,40 +176,40 @@ pub data IsMessage : Option (List ℕ) → List ℕ → Type 0 where
   for_file : (end : Ending) (name : List ℕ) → IsMessage (Some name) (message_of end)
 
 -- The whole message was put on err, or a front of it where err failed.
-abbrev pub Says : List ℕ → SinkSeen → Type 0
+abbrev pub Says : List ℕ → Change SinkSeen → Type 0
 Says message err = Grew message err ⊎ (GrewFront message err × SinkFailed err)
 
 -- The status that is due came with its message; or memory ran out, and a front of that message or of the one on memory was put.
-abbrev pub Reports : ℕ → List ℕ → ℕ → SinkSeen → Type 0
+abbrev pub Reports : ℕ → List ℕ → ℕ → Change SinkSeen → Type 0
 Reports due message status err =
     ((status ≡ due) × Says message err) ⊎ ((status ≡ 9) × (GrewFront message err ⊎ GrewFront (codes "mmc: no memory\n") err))
 
 -- ---- the answers
 
 -- Which status is given when, and what stands on out and err after it. `asked` is the file that the words ask to link.
-pub record Answers (status : ℕ) (asked : Option (List ℕ)) (files : FilesSeen) (out err : SinkSeen) : Type 0 where
+pub record Answers (status : ℕ) (asked : Option (List ℕ)) (files : Change FilesSeen) (out err : Change SinkSeen) : Type 0 where
   -- The headline: after 0, out grew by exactly a C text that is due, and nothing was said.
-  pub done : status ≡ 0 → (name : List ℕ) × (asked ≡ Some name) × (text : List ℕ) × Due files.held name text × Grew text out × IsSame err
+  pub done : status ≡ 0 → (name : List ℕ) × (asked ≡ Some name) × (text : List ℕ) × Due files.old.held name text × Grew text out × IsSame err
   -- 1: the unit has a listed fault, and this is the first, at its place in the file where it stands
-  pub fault : status ≡ 1 → (name : List ℕ) × (asked ≡ Some name) × (f : Fault) × IsFaulty files.held name f × IsSame out × Says (fault_message f.code f.place f.file) err
+  pub fault : status ≡ 1 → (name : List ℕ) × (asked ≡ Some name) × (f : Fault) × IsFaulty files.old.held name f × IsSame out × Says (fault_message f.code f.place f.file) err
   -- 2: the words are no command
   pub usage : status ≡ 2 → (asked ≡ None) × IsSame out × Says usage_message err
   -- 3: the unit's file or a header isn't there, or its read failed; a file that isn't told to be absent counts as a fault
   pub unread : status ≡ 3 → (name : List ℕ) × (asked ≡ Some name) × IsSame out × (file : List ℕ)
-      × ((IsAbsent files.held name file × IfNone files.held (FilesFailed files) × Says (message_of (ending.Absent file)) err) ⊎ (IsUnread files.held name file × FilesFailed files × Says (message_of (ending.ReadFailed file)) err))
+      × ((IsAbsent files.old.held name file × IfNone files.old.held (FilesFailed files) × Says (message_of (ending.Absent file)) err) ⊎ (IsUnread files.old.held name file × FilesFailed files × Says (message_of (ending.ReadFailed file)) err))
   -- 4: a write failed, behind a front of the text that was due
-  pub unwritten : status ≡ 4 → (name : List ℕ) × (asked ≡ Some name) × (text : List ℕ) × Due files.held name text × GrewFront text out × SinkFailed out × Says (message_of ending.WriteFailed) err
+  pub unwritten : status ≡ 4 → (name : List ℕ) × (asked ≡ Some name) × (text : List ℕ) × Due files.old.held name text × GrewFront text out × SinkFailed out × Says (message_of ending.WriteFailed) err
   -- 13: a file is past the limit
   pub long : status ≡ 13 → (name : List ℕ) × (asked ≡ Some name) × IsSame out × (file : List ℕ) × Says (message_of (ending.TooLong file)) err
-      × IsLong files.held name file × IfNone files.held (RoseBy (byte_limit + 1) files.drawn files.drawn')
+      × IsLong files.old.held name file × IfNone files.old.held (DrewTooMuch files)
   -- 9: memory ran out; out is as it was, or has a front of the text that was due, and err a front of a message
-  pub no_memory : status ≡ 9 → (IsSame out ⊎ ((name : List ℕ) × (asked ≡ Some name) × (text : List ℕ) × Due files.held name text × GrewFront text out))
+  pub no_memory : status ≡ 9 → (IsSame out ⊎ ((name : List ℕ) × (asked ≡ Some name) × (text : List ℕ) × Due files.old.held name text × GrewFront text out))
       × ((message : List ℕ) × (IsMessage asked message ⊎ (message ≡ codes "mmc: no memory\n")) × GrewFront message err)
   -- no other status is given
   pub only : (status ≡ 0) ⊎ (status ≡ 1) ⊎ (status ≡ 2) ⊎ (status ≡ 3) ⊎ (status ≡ 4) ⊎ (status ≡ 13) ⊎ (status ≡ 9)
   -- The other way, where files tell what they hold and have not failed, and out has not: each case has its status, or memory ran out.
-  pub complete : (h : Contents) (name : List ℕ) (ss : List Stmt) → files.held ≡ Some h → asked ≡ Some name → IsSound (Some h) name ss → (FilesFailed files → ⊥) → (SinkFailed out → ⊥) → (status ≡ 0) ⊎ (status ≡ 9)
-  pub refused : (h : Contents) (name : List ℕ) (f : Fault) → files.held ≡ Some h → asked ≡ Some name → IsFaulty (Some h) name f → (FilesFailed files → ⊥) → ((status ≡ 1) × Says (fault_message f.code f.place f.file) err) ⊎ (status ≡ 9)
-  pub past_limit : (h : Contents) (name file : List ℕ) → files.held ≡ Some h → asked ≡ Some name → IsLong (Some h) name file → (FilesFailed files → ⊥) → (status ≡ 13) ⊎ (status ≡ 9)
-  pub missing : (h : Contents) (name file : List ℕ) → files.held ≡ Some h → asked ≡ Some name → IsAbsent (Some h) name file → (FilesFailed files → ⊥) → (status ≡ 3) ⊎ (status ≡ 9)
+  pub complete : (h : Contents) (name : List ℕ) (ss : List Stmt) → files.old.held ≡ Some h → asked ≡ Some name → IsSound (Some h) name ss → (FilesFailed files → ⊥) → (SinkFailed out → ⊥) → (status ≡ 0) ⊎ (status ≡ 9)
+  pub refused : (h : Contents) (name : List ℕ) (f : Fault) → files.old.held ≡ Some h → asked ≡ Some name → IsFaulty (Some h) name f → (FilesFailed files → ⊥) → ((status ≡ 1) × Says (fault_message f.code f.place f.file) err) ⊎ (status ≡ 9)
+  pub past_limit : (h : Contents) (name file : List ℕ) → files.old.held ≡ Some h → asked ≡ Some name → IsLong (Some h) name file → (FilesFailed files → ⊥) → (status ≡ 13) ⊎ (status ≡ 9)
+  pub missing : (h : Contents) (name file : List ℕ) → files.old.held ≡ Some h → asked ≡ Some name → IsAbsent (Some h) name file → (FilesFailed files → ⊥) → (status ≡ 3) ⊎ (status ≡ 9)
   pub no_command : asked ≡ None → (status ≡ 2) ⊎ (status ≡ 9)

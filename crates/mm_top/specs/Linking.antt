@@ -1,5 +1,6 @@
 -- What the steps of `link` leave for the next: how a linking ends that comes to no statements.
 use Rattle.std.specs.Prelude.{◌≡◌, ℕ, List, Some}
+use Rattle.mm_base.specs.Outside.{FilesSeen, SinkSeen}
 use Rattle.mm_token.specs.declared.token.Tokens.{Tokens}
 use Rattle.mm_token.specs.Tokens.{Reads}
 use Rattle.mm_syntax.specs.declared.decl.Unit.{Unit as UnitTree}
@@ -8,15 +9,15 @@ use Rattle.mm_check_unit.specs.declared.first.Stmt.{Stmt}
 use Rattle.mm_check_unit.specs.First.{statements_of}
 use Rattle.mm_check_unit.specs.Laws.{IsBuilt, DefinesMain}
 use Rattle.mm_top.specs.declared.link.Ending.{Ending}
-use Rattle.mm_top.specs.Headline.{FilesSeen, SinkSeen, IsSame, Linked}
+use Rattle.mm_top.specs.Headline.{Change, IsSame, Linked}
 
 -- the linking ends so with nothing written
-abbrev pub Ends : Ending → List ℕ → FilesSeen → Type 0
-Ends ending name files = (out : SinkSeen) → IsSame out → Linked ending name files out
+abbrev pub Ends : Ending → List ℕ → Change FilesSeen → Type 0
+Ends ending name files = (out : Change SinkSeen) → IsSame out → Linked ending name files out
 
 -- The linking of a unit with these tokens ends so.
 abbrev pub EndsFor : Ending → List ℕ → Tokens → Type 0
-EndsFor ending name tokens = (files : FilesSeen) → Reads files.held name tokens → Ends ending name files
+EndsFor ending name tokens = (files : Change FilesSeen) → Reads files.old.held name tokens → Ends ending name files
 
 -- The linking of a unit with these tokens and this tree ends so.
 abbrev pub EndsForTree : Ending → List ℕ → Tokens → UnitTree → Type 0

@@ -24,7 +24,7 @@ use mm_syntax::form::Forms;
 use mm_syntax::walk::walk_any;
 use mm_token::read::get_tokens;
 use mm_token::token::{TokenEnd, Tokens};
-use std::alloc::Global;
+use std::alloc::{AllocError, Global};
 
 /// How the linking of a file ended.
 #[derive(Drop)]
@@ -41,17 +41,13 @@ pub enum Ending {
     NoMemory,
 }
 
-/// A tree of a form that isn't built.
-const NOT_BUILT: Code = Code {
-    letter: b'N',
-    number: 0,
-};
+impl From<AllocError> for Ending {
+    ghost from_gives = { λ _ end. end ≡ ending.NoMemory };
 
-/// No `int main()`.
-const NO_MAIN: Code = Code {
-    letter: b'P',
-    number: 5,
-};
+    fn from(_error: AllocError) -> Ending {
+        Ending::NoMemory
+    }
+}
 
 /// Where a unit begins.
 const START: Place = Place {
@@ -66,7 +62,7 @@ fn fault_in(alloc: Global, code: Code, place: Place, file: &str) -> Ending
 {
     match Text::from_str(alloc, file) {
         Ok(file) => Ending::Fault(code, place, file),
-        Err(_) => Ending::NoMemory,
+        Err(e) => Ending::from(e),
     }
 }
 
@@ -82,8 +78,8 @@ fn fault(alloc: Global, code: Code, place: Place, tokens: &Tokens) -> Ending
 
 /// The tokens of a unit.
 fn read<F: Files>(alloc: Global, name: &str, files: &mut F) -> Result<Tokens, Ending>
-    ensures { MatchResult result (Reads (F.held files.old) name.now) (λ e. Ends e name.now
-        (record { held = F.held files.old; faults = F.faults files.old; faults' = F.faults files.new; drawn = F.drawn files.old; drawn' = F.drawn files.new })) }
+    ensures { MatchResult result (Reads (F.seen files.old).held name.now) (λ e. Ends e name.now
+        (record { old = F.seen files.old; new = F.seen files.new })) }
 {
     match get_tokens(alloc, files, name) {
         Ok(tokens) => Ok(tokens),
@@ -111,12 +107,12 @@ fn check(alloc: Global, name: &str, tokens: &Tokens, tree: &Unit) -> Result<Vec<
     ensures { MatchResult result (λ v. IsFirst tree.now v.items) (λ e. EndsForTree e name.now tokens.now tree.now) }
 {
     if let Some(place) = walk_any(tree, Forms::all()) {
-        return Err(fault(alloc, NOT_BUILT, place, tokens));
+        return Err(fault(alloc, Code::N0, place, tokens));
     }
     match statements(alloc, tree) {
         Ok(Some(stmts)) => Ok(stmts),
-        Ok(None) => Err(fault_in(alloc, NO_MAIN, START, name)),
-        Err(_) => Err(Ending::NoMemory),
+        Ok(None) => Err(fault_in(alloc, Code::P5, START, name)),
+        Err(e) => Err(Ending::from(e)),
     }
 }
 
@@ -141,8 +137,8 @@ fn back(alloc: Global, stmts: &[Stmt]) -> Result<Vec<u8>, NoMemory>
 
 /// The C text of a unit.
 fn translate<F: Files>(alloc: Global, name: &str, files: &mut F) -> Result<Vec<u8>, Ending>
-    ensures { MatchResult result (λ text. Due (F.held files.old) name.now text.items) (λ e. Ends e name.now
-        (record { held = F.held files.old; faults = F.faults files.old; faults' = F.faults files.new; drawn = F.drawn files.old; drawn' = F.drawn files.new })) }
+    ensures { MatchResult result (λ text. Due (F.seen files.old).held name.now text.items) (λ e. Ends e name.now
+        (record { old = F.seen files.old; new = F.seen files.new })) }
 {
     let tokens = match read(alloc, name, files) {
         Ok(tokens) => tokens,
@@ -161,8 +157,8 @@ fn translate<F: Files>(alloc: Global, name: &str, files: &mut F) -> Result<Vec<u
 /// Reads a file and writes its C text.
 pub fn link<F: Files, O: Sink>(alloc: Global, name: &str, files: &mut F, out: &mut O) -> Ending
     ensures content { Linked result name.now
-        (record { held = F.held files.old; faults = F.faults files.old; faults' = F.faults files.new; drawn = F.drawn files.old; drawn' = F.drawn files.new })
-        (record { got = O.got out.old; got' = O.got out.new; faults = O.faults out.old; faults' = O.faults out.new }) }
+        (record { old = F.seen files.old; new = F.seen files.new })
+        (record { old = O.seen out.old; new = O.seen out.new }) }
 {
     let text = match translate(alloc, name, files) {
         Ok(text) => text,

@@ -6,7 +6,7 @@ ghost use Rattle.mm_top.specs.Headline.{behind, fault_message, message_of, statu
 
 use crate::link::{Ending, link};
 use crate::words::read_words;
-use mm_base::code::Code;
+use mm_base::code::{Code, PRELINK};
 use mm_base::outside::{Files, Sink, Source};
 use mm_base::place::Place;
 use mm_base::writing::{WriteEnd, put_all};
@@ -25,7 +25,7 @@ fn joined(alloc: Global, front: &[u8], name: &str, back: &[u8]) -> Result<Vec<u8
 fn behind_code(code: Code) -> &'static [u8]
     ensures { result.now ≡ behind code }
 {
-    if code.letter == b'P' { b" main" } else { b"" }
+    if code.letter == PRELINK { b" main" } else { b"" }
 }
 
 fn fault_line(alloc: Global, code: Code, place: Place, file: &str) -> Result<Vec<u8>, AllocError>
@@ -77,7 +77,7 @@ fn status(ending: &Ending) -> u8
 
 // Puts the message of a status on err.
 fn report<E: Sink>(err: &mut E, due: u8, message: &[u8]) -> u8
-    ensures { Reports due message.now result (record { got = E.got err.old; got' = E.got err.new; faults = E.faults err.old; faults' = E.faults err.new }) }
+    ensures { Reports due message.now result (record { old = E.seen err.old; new = E.seen err.new }) }
 {
     match put_all(err, message) {
         WriteEnd::Done => due,
@@ -87,7 +87,7 @@ fn report<E: Sink>(err: &mut E, due: u8, message: &[u8]) -> u8
 }
 
 fn finish<E: Sink>(alloc: Global, ending: &Ending, err: &mut E) -> u8
-    ensures { Reports (status_of ending.now) (message_of ending.now) result (record { got = E.got err.old; got' = E.got err.new; faults = E.faults err.old; faults' = E.faults err.new }) }
+    ensures { Reports (status_of ending.now) (message_of ending.now) result (record { old = E.seen err.old; new = E.seen err.new }) }
 {
     match message(alloc, ending) {
         Ok(text) => report(err, status(ending), text.as_slice()),
@@ -109,12 +109,10 @@ pub fn mm_main<F: Files, I: Source, O: Sink, E: Sink>(
     err: &mut E,
 ) -> u8
     ensures answers { Answers result (command (map string_bytes words.now))
-        (record { held = F.held files.old; faults = F.faults files.old; faults' = F.faults files.new; drawn = F.drawn files.old; drawn' = F.drawn files.new })
-        (record { got = O.got out.old; got' = O.got out.new; faults = O.faults out.old; faults' = O.faults out.new })
-        (record { got = E.got err.old; got' = E.got err.new; faults = E.faults err.old; faults' = E.faults err.new }) }
-    ensures input_left { I.left input.new ≡ I.left input.old }
-    ensures input_drawn { I.drawn input.new ≡ I.drawn input.old }
-    ensures input_faults { I.faults input.new ≡ I.faults input.old }
+        (record { old = F.seen files.old; new = F.seen files.new })
+        (record { old = O.seen out.old; new = O.seen out.new })
+        (record { old = E.seen err.old; new = E.seen err.new }) }
+    ensures input { I.seen input.new ≡ I.seen input.old }
 {
     match read_words(words) {
         None => report(err, 2, b"mmc: usage\n"),

@@ -1,5 +1,6 @@
 use Rattle.std.proofs.Common.{◌+◌, ◌≤◌, length, ◌*◌}
-use Rattle.mm_token.specs.Tokens.{byte_limit, PutsFile}
+use Rattle.mm_base.specs.declared.limits.TheConstants.{MAX_UNIT_BYTES}
+use Rattle.mm_token.specs.Tokens.{PutsFile}
 use Rattle.mm_token.specs.Causes.{AreKept}
 use Rattle.mm_token.specs.Unit.{state_of, Agrees, weight}
 use Rattle.mm_token.proofs.Reading.{SoFar, Bounds}
@@ -19,13 +20,13 @@ decreases-read_text g l = 4 * l.left + 2
 
 abbrev pub invariant-read_text-pieces : goal.invariant-read_text-pieces
 invariant-read_text-pieces g l = record {
-  so_far : SoFar (PutsFile (g.F.Files.held l.fn.files) l.left) l.text l.scanner.rest.now l.fn.start l.scanner.place l.scanner.fresh (state_of l.fn.unit) (state_of l.unit);
+  so_far : SoFar (PutsFile (g.F.Files.seen l.fn.files).held l.left) l.text l.scanner.rest.now l.fn.start l.scanner.place l.scanner.fresh (state_of l.fn.unit) (state_of l.unit);
   bounds : Bounds l.text l.scanner.rest.now l.fn.start l.scanner.place;
   counted : weight (state_of l.unit) + l.fn.unit.bytes + length l.scanner.rest.now ≤ weight (state_of l.fn.unit) + l.unit.bytes + length l.text;
-  limited : l.unit.bytes ≤ byte_limit;
+  limited : l.unit.bytes ≤ MAX_UNIT_BYTES;
   files : length l.fn.unit.files ≤ length l.unit.files;
   agrees : Agrees l.unit;
-  kept : AreKept (g.F.Files.held l.fn.files) (g.F.Files.held l.files) (g.F.Files.faults l.fn.files) (g.F.Files.faults l.files) (g.F.Files.drawn l.fn.files) (g.F.Files.drawn l.files);
+  kept : AreKept (g.F.Files.seen l.fn.files) (g.F.Files.seen l.files);
 }
 
 abbrev pub decreases-read_text-pieces : goal.decreases-read_text-pieces

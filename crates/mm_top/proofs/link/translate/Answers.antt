@@ -10,5 +10,5 @@ back-requires g c = subst (λ ss. AreValidStmts (checked ss)) (sym c.as_slice.en
 
 pub returns-in-Ok-back : goal.returns-in-Ok-back
 returns-in-Ok-back g c =
-    due (g.F.Files.held c.args.files.now) c.args.name.now c.in-Ok-back.text.items c.in-Ok.tokens c.in-Ok-front.stmts.items c.in-Ok.ensures c.in-Ok-front.ensures
+    due (g.F.Files.seen c.args.files.now).held c.args.name.now c.in-Ok-back.text.items c.in-Ok.tokens c.in-Ok-front.stmts.items c.in-Ok.ensures c.in-Ok-front.ensures
     (subst (λ ss. IsDue ss c.in-Ok-back.text.items) c.as_slice.ensures.value c.in-Ok-back.ensures)
