@@ -1,5 +1,8 @@
-// The statements of `main` stand in a header.
+// examples/run examples/headers.cc
+// > 6
+// > 42
+// The statements of `main` stand in a header, whose name is taken from the folder in which one runs.
 int main() {
-#include "statements.h"
+#include "examples/statements.h"
   return 0;
 }

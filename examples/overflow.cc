@@ -1,3 +1,7 @@
+// examples/run examples/overflow.cc
+// > 2147483647
+// > trap 1
+// The second sum is no `int`: the C text tests that before it adds, and traps.
 int main() {
   mm_put(2147483646 + 1);
   mm_put(2147483647 + 1);
