@@ -1,7 +1,7 @@
 #!/bin/sh
-# Reads units of 2^19 and 2^20 bytes and prints, for each kind of text, the times, their ratio and what is said: of
-# tokens alone, since the last byte is none; of statements with expressions; of functions; and of classes. Nothing is
-# asserted.
+# Reads units of 2^19 and 2^20 bytes and prints, for each kind of text, the times, their ratio and
+# what is said: of tokens alone, since the last byte is none; of statements with expressions; of
+# functions; and of classes. Nothing is asserted.
 set -eu
 top=$(cd "$(dirname "$0")/.." && pwd)
 work=$(mktemp -d)
@@ -9,9 +9,13 @@ trap 'rm -rf "$work"' EXIT
 "$top/mmc" link "$top/examples/sum.cc" >/dev/null
 # a head, a piece again and again, a tail, and blanks up to the size
 unit() {
-    awk -v size="$1" -v head="$2" -v piece="$3" -v tail="$4" 'BEGIN { printf "%s", head;
-        for (left = size - length(head) - length(tail); left >= length(piece); left -= length(piece)) printf "%s", piece;
-        printf "%s", tail; for (; left > 0; left--) printf " " }' >"$work/$1.cc"
+    awk -v size="$1" -v head="$2" -v piece="$3" -v tail="$4" 'BEGIN {
+        printf "%s", head
+        left = size - length(head) - length(tail)
+        for (; left >= length(piece); left -= length(piece)) printf "%s", piece
+        printf "%s", tail
+        for (; left > 0; left--) printf " "
+    }' >"$work/$1.cc"
 }
 time_of() {
     start=$(date +%s.%N)
@@ -23,7 +27,8 @@ row() {
     unit 1048576 "$2" "$3" "$4"
     half=$(time_of 524288)
     whole=$(time_of 1048576)
-    echo "$1: $half s, $whole s, ratio $(awk -v a="$half" -v b="$whole" 'BEGIN { print b / a }') ($(cat "$work/said"))"
+    ratio=$(awk -v a="$half" -v b="$whole" 'BEGIN { print b / a }')
+    echo "$1: $half s, $whole s, ratio $ratio ($(cat "$work/said"))"
 }
 row tokens '' 'a -> b ++ b == // c
 '"0 1u 234 /* d */ while ;
