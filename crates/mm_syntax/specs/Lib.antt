@@ -1,5 +1,8 @@
 pub mod Symbols
 pub mod Numbers
+pub mod Tree
+pub mod View
+pub mod First
 pub mod Built
 pub mod BuiltStatements
 pub mod BuiltDeclarations
