@@ -30,19 +30,19 @@ Behind n ts = (NoStops ts × (count_from n ts ≡ n + length ts)) ⊎ ((first : 
 behind : (n : ℕ) (ts : List Token) → Behind n ts
 unfolding Behind
 behind n [] = inl (tt, omega arith)
-behind n (t ∷ ts) = by (ends_count t) refl
+behind n (t ∷ ts) = by (ends_count t) refl (behind 0 ts) (behind (suc n) ts)
   where
     ended : (e : ends_count t ≡ true) → Behind 0 ts → Behind n (t ∷ ts)
-    ended e (inl h) = inr (t ∷ [], ts, refl, h.0, ap (λ b. count_from (if b then 0 else suc n) ts) e ∙ h.1)
+    ended e (inl h) = inr (t ∷ [], ts, refl, h.0, (let c : count_from n (t ∷ ts) ≡ count_from 0 ts = ap (λ b. count_from (if b then 0 else suc n) ts) e in omega (arith, c, h.1)))
     ended e (inr h) = inr (t ∷ h.0, h.1, ap (λ us. t ∷ us) h.2, h.3, ap (λ b. count_from (if b then 0 else suc n) ts) e ∙ h.4)
 
     on : (e : ends_count t ≡ false) → Behind (suc n) ts → Behind n (t ∷ ts)
     on e (inl h) = inl ((e, h.0), (let c : count_from n (t ∷ ts) ≡ count_from (suc n) ts = ap (λ b. count_from (if b then 0 else suc n) ts) e in omega (arith, c, h.1)))
     on e (inr h) = inr (t ∷ h.0, h.1, ap (λ us. t ∷ us) h.2, h.3, ap (λ b. count_from (if b then 0 else suc n) ts) e ∙ h.4)
 
-    by : (b : Bool) → ends_count t ≡ b → Behind n (t ∷ ts)
-    by true e = ended e (behind 0 ts)
-    by false e = on e (behind (suc n) ts)
+    by : (b : Bool) → ends_count t ≡ b → Behind 0 ts → Behind (suc n) ts → Behind n (t ∷ ts)
+    by true e h k = ended e h
+    by false e h k = on e k
 
 stops_right : (a b : List Token) → NoStops (a ++ b) → NoStops b
 stops_right [] b h = h
