@@ -3,6 +3,7 @@ pub mod Numbers
 pub mod Tree
 pub mod View
 pub mod First
+pub mod Spelled
 pub mod Built
 pub mod BuiltStatements
 pub mod BuiltDeclarations
