@@ -1,8 +1,8 @@
 -- A tree that was read has the text of the token at its place.
-use Rattle.std.proofs.Common.{◌≡◌, ℕ, zero, suc, Bool, true, false, ◌&&◌, ◌==◌, if◌then◌else◌, IsTrue, List, [], ◌∷◌, ◌++◌, Option, Some, None, inl, inr, map, refl, sym, ap, ◌∙◌, subst, arith, append_assoc}
+use Rattle.std.proofs.Common.{◌≡◌, ℕ, zero, suc, Bool, true, false, ◌&&◌, ◌==◌, if◌then◌else◌, List, [], ◌∷◌, ◌++◌, Option, Some, None, inl, inr, refl, sym, ap, ◌∙◌, subst, arith, append_assoc}
 use Rattle.std.specs.Prelude.{codes}
 use Rattle.mm_base.specs.declared.place.Place.{Place}
-use Rattle.mm_grammar.specs.Grammar.{has, name, Each, spells_in, spells_at, RuleSpells, Spells}
+use Rattle.mm_grammar.specs.Grammar.{spells_in, spells_at}
 use Rattle.mm_grammar.proofs.Deep.{spells_along}
 use Rattle.mm_token.specs.declared.token.Token.{Token}
 use Rattle.mm_syntax.specs.declared.symbol.Symbol.{Symbol}
@@ -14,9 +14,9 @@ use Rattle.mm_syntax.specs.declared.part.End.{End}
 use Rattle.mm_syntax.specs.declared.part.End.TheVariants as end_is
 use Rattle.mm_syntax.specs.declared.part.Suffix.{Suffix}
 use Rattle.mm_syntax.specs.declared.part.Suffix.TheVariants as suffix_is
-use Rattle.mm_syntax.specs.Symbols.{symbol_of, number_of}
+use Rattle.mm_syntax.specs.Symbols.{symbol_of}
 use Rattle.mm_syntax.specs.Built as b
-use Rattle.mm_syntax.specs.Rules.{Rule, Value, units, rule_of, expr, or, and, eq, rel, add, mul, unary, postfix, primary, prefixes, leaves}
+use Rattle.mm_syntax.specs.Rules.{Rule, Value, units, rule_of, expr, or, and, eq, rel, add, mul, unary, postfix, primary, leaves}
 use Rattle.mm_syntax.specs.Tree as t
 use Rattle.mm_syntax.specs.View.{expr_step, kind_view, expr_view}
 use Rattle.mm_syntax.specs.First.{place_of, is_same, text_from, first_text}

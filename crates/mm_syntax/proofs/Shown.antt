@@ -1,5 +1,5 @@
 -- What plain trees show is what those in memory show, part by part.
-use Rattle.std.proofs.Common.{◌≡◌, List, [], ◌∷◌, ◌++◌, map, Option, Some, None, refl, ap, ap₂, ◌∙◌}
+use Rattle.std.proofs.Common.{◌≡◌, List, [], ◌∷◌, ◌++◌, map, Option, Some, None, refl, ap, ap₂}
 use Rattle.std.specs.List.{flat_map}
 use Rattle.mm_base.specs.declared.place.Place.{Place}
 use Rattle.mm_syntax.specs.declared.expr.Expr.{Expr}

@@ -27,7 +27,7 @@ use Rattle.mm_syntax.specs.declared.decl.Unit.{Unit as UnitTree}
 use Rattle.mm_syntax.specs.declared.form.Form.TheVariants as form
 use Rattle.mm_syntax.specs.declared.walk.Built.TheVariants as built
 use Rattle.mm_syntax.specs.View.{expr_view, stmt_view}
-use Rattle.mm_syntax.specs.Forms.{Shown, plain, of_form, shown_type, mark_or, run_built, return_built, param_shown, head_shown, function_built, method_form, unit_built, expr_shows, stmt_shows}
+use Rattle.mm_syntax.specs.Forms.{Shown, plain, of_form, shown_type, mark_or, return_built, param_shown, head_shown, function_built, method_form, unit_built, expr_shows, stmt_shows}
 
 abbrev pub shown_expr : Expr → Shown
 shown_expr x = expr_shows (expr_view x)

@@ -1,5 +1,5 @@
 -- Which plain tree a tree in memory is.
-use Rattle.std.specs.Prelude.{ℕ, true, false, List, [], ◌∷◌, map, Option, Some, None}
+use Rattle.std.specs.Prelude.{true, false, List, [], ◌∷◌, map, Option, Some, None}
 use Rattle.mm_base.specs.declared.place.Place.{Place}
 use Rattle.mm_syntax.specs.declared.expr.Expr.{Expr, fold-Expr}
 use Rattle.mm_syntax.specs.declared.expr.ExprKind.{ExprKind, fold-ExprKind}
