@@ -11,7 +11,7 @@ use Rattle.mm_syntax.specs.declared.stmt.Declarator.{Declarator}
 use Rattle.mm_syntax.specs.declared.stmt.Variables.{Variables}
 use Rattle.mm_syntax.specs.declared.stmt.ForStart.{ForStart}
 use Rattle.mm_syntax.specs.declared.stmt.ForStart.TheVariants as start
-use Rattle.mm_syntax.specs.declared.stmt.StmtKind.{StmtKind, StmtKind-F, roll-StmtKind, map-StmtKind, fold-StmtKind, fold-roll-StmtKind}
+use Rattle.mm_syntax.specs.declared.stmt.StmtKind.{StmtKind, StmtKind-F, roll-StmtKind, map-StmtKind, fold-roll-StmtKind}
 use Rattle.mm_syntax.specs.declared.stmt.Stmt.{Stmt-F, roll-Stmt, map-Stmt, fold-roll-Stmt, ind-Stmt}
 use Rattle.mm_syntax.specs.declared.stmt.Stmt.{Stmt as StmtTree}
 use Rattle.mm_syntax.specs.declared.form.Form.TheVariants as form

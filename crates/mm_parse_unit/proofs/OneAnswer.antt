@@ -1,5 +1,5 @@
 -- Tokens are the text of one unit, or have one first syntax fault.
-use Rattle.std.proofs.Common.{◌≡◌, ℕ, List, [], ◌∷◌, ◌++◌, ◌⊎◌, take, inl, inr, refl, ap, sym, ◌∙◌, arith, subst, append_assoc}
+use Rattle.std.proofs.Common.{◌≡◌, ℕ, List, [], ◌∷◌, ◌++◌, ◌⊎◌, take, inl, inr, refl, ap, sym, ◌∙◌, subst, append_assoc}
 use Rattle.std.proofs.lemmas.List.{append-nil}
 use Rattle.mm_grammar.specs.Grammar.{name, Spells}
 use Rattle.mm_grammar.proofs.Lists.{equal, later, earlier, cuts}
