@@ -1,5 +1,5 @@
 -- A unit whose trees are all built, and which defines `int main()`, is a first text.
-use Rattle.std.proofs.Common.{◌≡◌, Bool, true, false, ◌&&◌, if◌then◌else◌, List, [], ◌∷◌, ◌++◌, Option, Some, None, ap, map}
+use Rattle.std.proofs.Common.{◌≡◌, Bool, true, false, ◌&&◌, if◌then◌else◌, List, [], ◌∷◌, ◌++◌, Option, Some, None, ap, subst, map}
 use Rattle.mm_base.specs.declared.place.Place.{Place}
 use Rattle.mm_syntax.specs.declared.decl.Param.{Param}
 use Rattle.mm_syntax.specs.declared.decl.Head.{Head}
@@ -14,7 +14,9 @@ use Rattle.mm_syntax.specs.declared.decl.Unit.{Unit as UnitTree}
 use Rattle.mm_syntax.specs.declared.form.Form.TheVariants as form
 use Rattle.mm_syntax.specs.declared.walk.Built.{Built}
 use Rattle.mm_syntax.specs.declared.walk.Built.TheVariants as built
-use Rattle.mm_syntax.specs.Forms.{Shown, is_built, only_if, is_block, is_main, function_built, unit_built, member_shown, shown_type, shown_stmt, param_at, param_shown, head_shown, body_shown, maybe_body, maybe_block, method_form, fn_shown, class_shown, decl_shown, shown_decl, shown_unit}
+use Rattle.mm_syntax.specs.Forms.{Shown, is_built, only_if, is_block, is_main, function_built, unit_built, shown_type, param_at, param_shown, head_shown, method_form, all_forms, first_of}
+use Rattle.mm_syntax.specs.Shown.{member_shown, shown_stmt, body_shown, maybe_body, maybe_block, fn_shown, class_shown, decl_shown, shown_decl, unit_shown}
+use Rattle.mm_syntax.proofs.Shown.{unit-shown}
 use Rattle.std.specs.List.{flat_map}
 use Rattle.mm_check_unit.specs.declared.first.Stmt.{Stmt}
 use Rattle.mm_check_unit.specs.First.{StmtMeant, meant_stmt, body_meant, fn_meant, decl_meant, decls_meant}
@@ -51,7 +53,7 @@ decl_good : (x : DeclKind) → Good (decl_shown x)
 decl_good (d.Class x) = class_good x.kind x.place
 decl_good (d.Function x) = fn_good x.kind x.place
 
-unit_good : (u : UnitTree) → Good (shown_unit u)
+unit_good : (u : UnitTree) → Good (unit_shown u)
 unit_good u = plain_good (unit_built (map shown_decl u.decls)) u.place (map shown_decl u.decls) (good_map shown_decl (λ x. decl_good x.kind) u.decls)
 
 -- ---- a built function is a first text
@@ -85,4 +87,4 @@ decls_have (x ∷ []) e h = decl_has x.kind e
 decls_have (x ∷ (y ∷ xs)) e h = absurd (cc)
 
 pub built_is_first : BuiltIsFirst
-built_is_first u built main = decls_have u.decls (unit_good u (no_marks (shown_unit u).marks built)) main
+built_is_first u built main = decls_have u.decls (unit_good u (no_marks (unit_shown u).marks (subst (λ s. first_of all_forms s.marks ≡ None) (unit-shown u) built))) main

@@ -13,7 +13,11 @@ use Rattle.mm_syntax.specs.declared.form.Form.{Form}
 use Rattle.mm_syntax.specs.declared.form.Form.TheVariants as form
 use Rattle.mm_syntax.specs.declared.walk.Built.{Built}
 use Rattle.mm_syntax.specs.declared.walk.Built.TheVariants as built
-use Rattle.mm_syntax.specs.Forms.{Shown, of_form, plain, only_if, is_callee, is_sum, number_built, name_built, sum_built, make_form, unary_shown, call_shown, expr_shown, shown_expr}
+use Rattle.mm_syntax.specs.Tree as t
+use Rattle.mm_syntax.specs.View.{expr_step as expr_node, kind_view, expr_view, exprs_view}
+use Rattle.mm_syntax.specs.Forms.{Shown, of_form, plain, only_if, is_callee, is_sum, number_built, name_built, sum_built, make_form, unary_shown, call_shown, expr_shows, exprs_show}
+use Rattle.mm_syntax.specs.Shown.{shown_expr}
+use Rattle.mm_syntax.proofs.Shown.{exprs-shown}
 use Rattle.mm_check_unit.specs.declared.first.Sum.{Sum}
 use Rattle.mm_check_unit.specs.First.{Meant, nothing, sum, callee, put, number_meant, name_meant, sum_meant, call_meant, expr_meant, meant}
 use Rattle.mm_check_unit.proofs.Marks.{Good, AllGood, plain_good, form_good}
@@ -61,7 +65,7 @@ call_says _ y a b p q = tt
 -- ---- the induction
 
 abbrev kind_shown : ExprKind → Place → Shown
-kind_shown = fold-ExprKind (Place → Shown) Shown expr_shown (λ x. x.kind x.place)
+kind_shown k place = expr_shows (kind_view k place)
 
 abbrev kind_meant : ExprKind → Meant
 kind_meant = fold-ExprKind Meant Meant expr_meant (λ x. x.kind)
@@ -96,13 +100,13 @@ call_right place x (e ∷ (f ∷ es)) = plainly built.Nothing place (shown_expr 
 abbrev plain_kind : ExprKind-F KindProved Proved → ExprKind-F ExprKind Expr
 plain_kind = map-ExprKind KindProved Proved ExprKind Expr (λ e. e.0) (λ e. e.0)
 
-abbrev shown_parts : ExprKind-F ExprKind Expr → ExprKind-F (Place → Shown) Shown
-shown_parts = map-ExprKind ExprKind Expr (Place → Shown) Shown kind_shown shown_expr
+abbrev plain_parts : ExprKind-F ExprKind Expr → ExprKind-F (Place → t.Expr) t.Expr
+plain_parts = map-ExprKind ExprKind Expr (Place → t.Expr) t.Expr kind_view expr_view
 
 abbrev meant_parts : ExprKind-F ExprKind Expr → ExprKind-F Meant Meant
 meant_parts = map-ExprKind ExprKind Expr Meant Meant kind_meant meant
 
-kind_right : (y : ExprKind-F KindProved Proved) (place : Place) → Right (expr_shown (shown_parts (plain_kind y)) place) (expr_meant (meant_parts (plain_kind y)))
+kind_right : (y : ExprKind-F KindProved Proved) (place : Place) → Right (expr_shows (expr_node (plain_parts (plain_kind y)) place)) (expr_meant (meant_parts (plain_kind y)))
 kind_right (ExprKind-F.Number n) place = plainly (number_built n) place [] (number_meant n) tt (number_says (is_int_number n.text n.value) n.value)
 kind_right ExprKind-F.True place = plainly built.Nothing place [] nothing tt tt
 kind_right ExprKind-F.False place = plainly built.Nothing place [] nothing tt tt
@@ -118,20 +122,21 @@ kind_right (ExprKind-F.Binary a op at b) place =
 kind_right (ExprKind-F.Choose a at b c) place = plainly built.Nothing place (shown_expr a.0 ∷ (shown_expr b.0 ∷ (shown_expr c.0 ∷ []))) nothing (a.1.good, (b.1.good, (c.1.good, tt))) tt
 kind_right (ExprKind-F.Assign a op at b) place = plainly built.Nothing place (shown_expr a.0 ∷ (shown_expr b.0 ∷ [])) nothing (a.1.good, (b.1.good, tt)) tt
 kind_right (ExprKind-F.New class) place = formed form.Object place [] nothing
-kind_right (ExprKind-F.Make class xs) place = formed (make_form (map shown_expr (map (λ e. e.0) xs))) place (map shown_expr (map (λ e. e.0) xs)) nothing
-kind_right (ExprKind-F.Call x xs) place = call_right place x xs
+kind_right (ExprKind-F.Make class xs) place = let ys = exprs_show (exprs_view (map (λ e. e.0) xs)) in formed (make_form ys) place ys nothing
+kind_right (ExprKind-F.Call x xs) place =
+    subst (λ ys. Right (call_shown place (shown_expr x.0) ys) (call_meant (meant x.0) (map meant (map (λ e. e.0) xs)))) (sym (exprs-shown (map (λ e. e.0) xs))) (call_right place x xs)
 kind_right (ExprKind-F.Member x op at class word) place = formed form.Object place (shown_expr x.0 ∷ []) nothing
 
 kind_step : (x : ExprKind-F ExprKind Expr) (y : ExprKind-F KindProved Proved) → plain_kind y ≡ x → KindClaim (roll-ExprKind x)
 kind_step x y is place =
-    let a : Right (expr_shown (shown_parts x) place) (expr_meant (meant_parts x)) = subst (λ z. Right (expr_shown (shown_parts z) place) (expr_meant (meant_parts z))) is (kind_right y place) in
-    let b : Right (kind_shown (roll-ExprKind x) place) (expr_meant (meant_parts x)) = subst (λ s. Right (s place) (expr_meant (meant_parts x))) (sym (fold-roll-ExprKind (Place → Shown) Shown expr_shown (λ x. x.kind x.place) x)) a in
+    let a : Right (expr_shows (expr_node (plain_parts x) place)) (expr_meant (meant_parts x)) = subst (λ z. Right (expr_shows (expr_node (plain_parts z) place)) (expr_meant (meant_parts z))) is (kind_right y place) in
+    let b : Right (kind_shown (roll-ExprKind x) place) (expr_meant (meant_parts x)) = subst (λ s. Right (expr_shows (s place)) (expr_meant (meant_parts x))) (sym (fold-roll-ExprKind (Place → t.Expr) t.Expr expr_node (λ x. x.kind x.place) x)) a in
     subst (λ m. Right (kind_shown (roll-ExprKind x) place) m) (sym (fold-roll-ExprKind Meant Meant expr_meant (λ x. x.kind) x)) b
 
 expr_step : (x : Expr-F ExprKind Expr) (y : Expr-F KindProved Proved) → map-Expr KindProved Proved ExprKind Expr (λ e. e.0) (λ e. e.0) y ≡ x → Claim (roll-Expr x)
 expr_step x y is =
     let a : Right (kind_shown x.kind x.place) (kind_meant x.kind) = subst (λ z. Right (kind_shown z.kind z.place) (kind_meant z.kind)) is (y.kind.1 y.place) in
-    let b : Right (shown_expr (roll-Expr x)) (kind_meant x.kind) = subst (λ s. Right s (kind_meant x.kind)) (sym (fold-roll-Expr (Place → Shown) Shown expr_shown (λ x. x.kind x.place) x)) a in
+    let b : Right (shown_expr (roll-Expr x)) (kind_meant x.kind) = subst (λ s. Right (expr_shows s) (kind_meant x.kind)) (sym (fold-roll-Expr (Place → t.Expr) t.Expr expr_node (λ x. x.kind x.place) x)) a in
     subst (λ m. Right (shown_expr (roll-Expr x)) m) (sym (fold-roll-Expr Meant Meant expr_meant (λ x. x.kind) x)) b
 
 pub expr_right : (x : Expr) → Right (shown_expr x) (meant x)

@@ -11,13 +11,17 @@ use Rattle.mm_syntax.specs.declared.stmt.Declarator.{Declarator}
 use Rattle.mm_syntax.specs.declared.stmt.Variables.{Variables}
 use Rattle.mm_syntax.specs.declared.stmt.ForStart.{ForStart}
 use Rattle.mm_syntax.specs.declared.stmt.ForStart.TheVariants as start
-use Rattle.mm_syntax.specs.declared.stmt.StmtKind.{StmtKind, StmtKind-F, roll-StmtKind, map-StmtKind, fold-StmtKind, fold-roll-StmtKind}
+use Rattle.mm_syntax.specs.declared.stmt.StmtKind.{StmtKind, StmtKind-F, roll-StmtKind, map-StmtKind, fold-roll-StmtKind}
 use Rattle.mm_syntax.specs.declared.stmt.Stmt.{Stmt-F, roll-Stmt, map-Stmt, fold-roll-Stmt, ind-Stmt}
 use Rattle.mm_syntax.specs.declared.stmt.Stmt.{Stmt as StmtTree}
 use Rattle.mm_syntax.specs.declared.form.Form.TheVariants as form
 use Rattle.mm_syntax.specs.declared.walk.Built.{Built}
 use Rattle.mm_syntax.specs.declared.walk.Built.TheVariants as built
-use Rattle.mm_syntax.specs.Forms.{Shown, plain, only_if, is_statement, all_statements, type_built, run_built, return_built, block_built, shown_expr, type_shown, shown_type, maybe_expr, mark_or, initial_shown, declarator_shown, variables_shown, start_shown, return_shown, stmt_shown, shown_stmt}
+use Rattle.mm_syntax.specs.Tree as t
+use Rattle.mm_syntax.specs.View.{maybe_view, stmt_step as stmt_node, stmt_kind_view, stmt_view}
+use Rattle.mm_syntax.specs.Forms.{Shown, plain, only_if, is_statement, all_statements, type_built, run_built, return_built, block_built, type_shown, shown_type, mark_or, maybe_shows, stmt_shows}
+use Rattle.mm_syntax.specs.Shown.{shown_expr, maybe_expr, initial_shown, declarator_shown, variables_shown, start_shown, return_shown, shown_stmt}
+use Rattle.mm_syntax.proofs.Shown.{stmts-shown, maybe-shown, variables-shown, start-shown, return-shown}
 use Rattle.mm_check_unit.specs.declared.first.Stmt.{Stmt}
 use Rattle.mm_check_unit.specs.declared.first.Stmt.TheVariants.{Put}
 use Rattle.mm_check_unit.specs.First.{Meant, meant, StmtMeant, no_stmt, one_stmt, block, run_meant, value_meant, return_meant, block_with, block_meant, stmt_meant, meant_stmt}
@@ -91,7 +95,7 @@ with_says _ b m n p q = tt
 -- ---- the induction
 
 abbrev kind_shown : StmtKind → Place → Shown
-kind_shown = fold-StmtKind (Place → Shown) Shown stmt_shown (λ x. x.kind x.place)
+kind_shown k place = stmt_shows (stmt_kind_view k place)
 
 abbrev KindClaim : StmtKind → Type 0
 KindClaim k = (place : Place) → StmtRight (kind_shown k place) (kind_meant k)
@@ -121,39 +125,45 @@ return_right (Some x) place = plainly (return_built (shown_expr x).built) place 
 abbrev plain_kind : StmtKind-F KindProved Proved → StmtKind-F StmtKind StmtTree
 plain_kind = map-StmtKind KindProved Proved StmtKind StmtTree (λ e. e.0) (λ e. e.0)
 
-abbrev shown_parts : StmtKind-F StmtKind StmtTree → StmtKind-F (Place → Shown) Shown
-shown_parts = map-StmtKind StmtKind StmtTree (Place → Shown) Shown kind_shown shown_stmt
+abbrev plain_parts : StmtKind-F StmtKind StmtTree → StmtKind-F (Place → t.Stmt) t.Stmt
+plain_parts = map-StmtKind StmtKind StmtTree (Place → t.Stmt) t.Stmt stmt_kind_view stmt_view
 
 abbrev meant_parts : StmtKind-F StmtKind StmtTree → StmtKind-F StmtMeant StmtMeant
 meant_parts = map-StmtKind StmtKind StmtTree StmtMeant StmtMeant kind_meant meant_stmt
 
-kind_right : (y : StmtKind-F KindProved Proved) (place : Place) → StmtRight (stmt_shown (shown_parts (plain_kind y)) place) (stmt_meant (meant_parts (plain_kind y)))
-kind_right (StmtKind-F.Block xs) place = plainly (block_built (map shown_stmt (map (λ e. e.0) xs))) place (map shown_stmt (map (λ e. e.0) xs)) (block_meant (map meant_stmt (map (λ e. e.0) xs))) (all_good xs) (block_says xs)
+kind_right : (y : StmtKind-F KindProved Proved) (place : Place) → StmtRight (stmt_shows (stmt_node (plain_parts (plain_kind y)) place)) (stmt_meant (meant_parts (plain_kind y)))
+kind_right (StmtKind-F.Block xs) place =
+    subst (λ ys. StmtRight (plain (block_built ys) place ys) (block_meant (map meant_stmt (map (λ e. e.0) xs)))) (sym (stmts-shown (map (λ e. e.0) xs)))
+    (plainly (block_built (map shown_stmt (map (λ e. e.0) xs))) place (map shown_stmt (map (λ e. e.0) xs)) (block_meant (map meant_stmt (map (λ e. e.0) xs))) (all_good xs) (block_says xs))
 kind_right StmtKind-F.Empty place = plainly built.Nothing place [] no_stmt tt tt
 kind_right (StmtKind-F.Expr x) place = plainly (run_built (shown_expr x).built) place (shown_expr x ∷ []) (run_meant (meant x)) (expr_good x, tt) (run_says (shown_expr x).built (meant x) (expr_right x).says)
-kind_right (StmtKind-F.Variables x) place = plainly built.Nothing place (variables_shown x) no_stmt (variables_good x) tt
+kind_right (StmtKind-F.Variables x) place =
+    subst (λ ys. StmtRight (plain built.Nothing place ys) no_stmt) (sym (variables-shown x)) (plainly built.Nothing place (variables_shown x) no_stmt (variables_good x) tt)
 kind_right (StmtKind-F.If x a) place = plainly built.Nothing place (shown_expr x ∷ (shown_stmt a.0 ∷ [])) no_stmt (expr_good x, (a.1.good, tt)) tt
 kind_right (StmtKind-F.Choose x a b) place = plainly built.Nothing place (shown_expr x ∷ (shown_stmt a.0 ∷ (shown_stmt b.0 ∷ []))) no_stmt (expr_good x, (a.1.good, (b.1.good, tt))) tt
 kind_right (StmtKind-F.While x a) place = plainly built.Nothing place (shown_expr x ∷ (shown_stmt a.0 ∷ [])) no_stmt (expr_good x, (a.1.good, tt)) tt
 kind_right (StmtKind-F.Do a x) place = plainly built.Nothing place (shown_stmt a.0 ∷ (shown_expr x ∷ [])) no_stmt (a.1.good, (expr_good x, tt)) tt
 kind_right (StmtKind-F.For first x y a) place =
-    plainly built.Nothing place (((start_shown first ++ maybe_expr x) ++ maybe_expr y) ++ shown_stmt a.0 ∷ []) no_stmt
+    subst (λ ys. StmtRight (plain built.Nothing place (((ys ++ maybe_shows (maybe_view x)) ++ maybe_shows (maybe_view y)) ++ shown_stmt a.0 ∷ [])) no_stmt) (sym (start-shown first))
+    (subst (λ ys. StmtRight (plain built.Nothing place (((start_shown first ++ ys) ++ maybe_shows (maybe_view y)) ++ shown_stmt a.0 ∷ [])) no_stmt) (sym (maybe-shown x))
+    (subst (λ ys. StmtRight (plain built.Nothing place (((start_shown first ++ maybe_expr x) ++ ys) ++ shown_stmt a.0 ∷ [])) no_stmt) (sym (maybe-shown y))
+    (plainly built.Nothing place (((start_shown first ++ maybe_expr x) ++ maybe_expr y) ++ shown_stmt a.0 ∷ []) no_stmt
     (good-append ((start_shown first ++ maybe_expr x) ++ maybe_expr y) (shown_stmt a.0 ∷ [])
-    (good-append (start_shown first ++ maybe_expr x) (maybe_expr y) (good-append (start_shown first) (maybe_expr x) (start_good first) (maybe_good x)) (maybe_good y)) (a.1.good, tt)) tt
+    (good-append (start_shown first ++ maybe_expr x) (maybe_expr y) (good-append (start_shown first) (maybe_expr x) (start_good first) (maybe_good x)) (maybe_good y)) (a.1.good, tt)) tt)))
 kind_right StmtKind-F.Break place = plainly built.Nothing place [] no_stmt tt tt
 kind_right StmtKind-F.Continue place = plainly built.Nothing place [] no_stmt tt tt
-kind_right (StmtKind-F.Return x) place = return_right x place
+kind_right (StmtKind-F.Return x) place = subst (λ s. StmtRight s (return_meant x)) (sym (return-shown place x)) (return_right x place)
 
 kind_step : (x : StmtKind-F StmtKind StmtTree) (y : StmtKind-F KindProved Proved) → plain_kind y ≡ x → KindClaim (roll-StmtKind x)
 kind_step x y is place =
-    let a : StmtRight (stmt_shown (shown_parts x) place) (stmt_meant (meant_parts x)) = subst (λ z. StmtRight (stmt_shown (shown_parts z) place) (stmt_meant (meant_parts z))) is (kind_right y place) in
-    let b : StmtRight (kind_shown (roll-StmtKind x) place) (stmt_meant (meant_parts x)) = subst (λ s. StmtRight (s place) (stmt_meant (meant_parts x))) (sym (fold-roll-StmtKind (Place → Shown) Shown stmt_shown (λ x. x.kind x.place) x)) a in
+    let a : StmtRight (stmt_shows (stmt_node (plain_parts x) place)) (stmt_meant (meant_parts x)) = subst (λ z. StmtRight (stmt_shows (stmt_node (plain_parts z) place)) (stmt_meant (meant_parts z))) is (kind_right y place) in
+    let b : StmtRight (kind_shown (roll-StmtKind x) place) (stmt_meant (meant_parts x)) = subst (λ s. StmtRight (stmt_shows (s place)) (stmt_meant (meant_parts x))) (sym (fold-roll-StmtKind (Place → t.Stmt) t.Stmt stmt_node (λ x. x.kind x.place) x)) a in
     subst (λ m. StmtRight (kind_shown (roll-StmtKind x) place) m) (sym (fold-roll-StmtKind StmtMeant StmtMeant stmt_meant (λ x. x.kind) x)) b
 
 stmt_step : (x : Stmt-F StmtKind StmtTree) (y : Stmt-F KindProved Proved) → map-Stmt KindProved Proved StmtKind StmtTree (λ e. e.0) (λ e. e.0) y ≡ x → Claim (roll-Stmt x)
 stmt_step x y is =
     let a : StmtRight (kind_shown x.kind x.place) (kind_meant x.kind) = subst (λ z. StmtRight (kind_shown z.kind z.place) (kind_meant z.kind)) is (y.kind.1 y.place) in
-    let b : StmtRight (shown_stmt (roll-Stmt x)) (kind_meant x.kind) = subst (λ s. StmtRight s (kind_meant x.kind)) (sym (fold-roll-Stmt (Place → Shown) Shown stmt_shown (λ x. x.kind x.place) x)) a in
+    let b : StmtRight (shown_stmt (roll-Stmt x)) (kind_meant x.kind) = subst (λ s. StmtRight (stmt_shows s) (kind_meant x.kind)) (sym (fold-roll-Stmt (Place → t.Stmt) t.Stmt stmt_node (λ x. x.kind x.place) x)) a in
     subst (λ m. StmtRight (shown_stmt (roll-Stmt x)) m) (sym (fold-roll-Stmt StmtMeant StmtMeant stmt_meant (λ x. x.kind) x)) b
 
 pub stmt_right : (x : StmtTree) → StmtRight (shown_stmt x) (meant_stmt x)

@@ -8,41 +8,42 @@ use Rattle.mm_token.specs.declared.token.Token.{Token}
 use Rattle.mm_syntax.specs.declared.symbol.Symbol.TheVariants as k
 use Rattle.mm_syntax.specs.declared.part.Begun.{Begun}
 use Rattle.mm_syntax.specs.declared.stmt.Stmt.{Stmt}
-use Rattle.mm_syntax.specs.declared.stmt.StmtKind.{the_lemmas}
 use Rattle.mm_syntax.specs.declared.stmt.StmtKind.TheVariants as s
 use Rattle.mm_syntax.specs.declared.stmt.Variables.{Variables}
 use Rattle.mm_syntax.specs.Symbols.{symbol_of, number_of}
 use Rattle.mm_syntax.specs.BuiltStatements as bs
 use Rattle.mm_syntax.specs.Rules.{P, units, token, stmt, enclosed, branches, otherwise, maybe_expr, for_start, if_stmt, while_stmt, for_stmt, ◌▸◌}
 use Rattle.mm_syntax.specs.Rules as rules_of
+use Rattle.mm_syntax.proofs.Views.{tree_rules}
 use Rattle.mm_syntax.proofs.Nearest.{closed_else, closed_while, closed_for}
 use Rattle.mm_cursor.proofs.Steps.{Took}
 
 -- ---- the statements that are closed
 
 closed_block : (brace : Token) (stmts : List Stmt) → bs.is_closed (bs.block brace stmts) ≡ true
-closed_block brace stmts = search (rules, the_lemmas)
+closed_block brace stmts = search (rules, tree_rules)
 
 closed_run : (v : Begun) → bs.is_closed (bs.run v) ≡ true
-closed_run v = search (rules, the_lemmas)
+closed_run v = search (rules, tree_rules)
 
 closed_declared : (v : Variables) → bs.is_closed (bs.declared v) ≡ true
-closed_declared v = search (rules, the_lemmas)
+closed_declared v = search (rules, tree_rules)
 
 closed_empty : (place : Place) → bs.is_closed (bs.statement s.Empty place) ≡ true
-closed_empty place = search (rules, the_lemmas)
+closed_empty place = search (rules, tree_rules)
 
 closed_break : (place : Place) → bs.is_closed (bs.statement s.Break place) ≡ true
-closed_break place = search (rules, the_lemmas)
+closed_break place = search (rules, tree_rules)
 
 closed_continue : (place : Place) → bs.is_closed (bs.statement s.Continue place) ≡ true
-closed_continue place = search (rules, the_lemmas)
+closed_continue place = search (rules, tree_rules)
 
 closed_return : (word : Token) (value : Option Begun) → bs.is_closed (bs.returned word value) ≡ true
-closed_return word value = search (rules, the_lemmas)
+closed_return word None = search (rules, tree_rules)
+closed_return word (Some v) = search (rules, tree_rules)
 
 closed_do : (word : Token) (body : Stmt) (condition : Begun) → bs.is_closed (bs.done_while word body condition) ≡ true
-closed_do word body condition = search (rules, the_lemmas)
+closed_do word body condition = search (rules, tree_rules)
 
 -- a statement that is closed isn't open
 not_open : {C : Type 0} → (v w : Stmt) → v ≡ w → bs.is_closed w ≡ true → bs.is_closed v ≡ false → C

@@ -3,12 +3,8 @@ use Rattle.std.proofs.Common.{◌≡◌, ℕ, suc, ◌+◌, ◌≤◌, ◌<◌, 
 use Rattle.std.proofs.lemmas.List.{append_assoc, append-nil}
 use Rattle.mm_token.specs.declared.token.Token.{Token}
 use Rattle.mm_parse_expr.specs.Longest.{count_from, ends_count}
-use Rattle.mm_parse_unit.specs.Units.{KeepsCount}
-
--- no `;`, `{` or `}`
-abbrev pub NoStops : List Token → Type 0
-NoStops [] = Unit {0}
-NoStops (t ∷ ts) = (ends_count t ≡ false) × NoStops ts
+use Rattle.mm_parse_unit.specs.Units.{NoStops, KeepsCount}
+use Rattle.mm_parse_unit.proofs.Stops.{past_of}
 
 pub stops_append : (a b : List Token) → NoStops a → NoStops b → NoStops (a ++ b)
 stops_append [] b h k = k
@@ -67,4 +63,4 @@ all_within n (t ∷ before) part after m h s =
 
 pub counted : (ts : List Token) → KeepsCount ts → Counted ts
 unfolding Keeps
-counted ts h before part after e s = all_within 0 before part after (omega arith) (subst (Keeps 0) e h) s
+counted ts h before part after e s = all_within 0 before part after (omega arith) (subst (Keeps 0) e (λ b a t i p. h b a t i (past_of b p))) s

@@ -9,7 +9,8 @@ use Rattle.mm_syntax.specs.declared.symbol.Symbol.TheVariants as k
 use Rattle.mm_syntax.specs.Symbols.{number_of, symbol_of}
 use Rattle.mm_syntax.specs.Rules.{Rule, units, P, ◌▸◌, ◌◂◌}
 use Rattle.mm_parse_expr.specs.Longest.{ends_count}
-use Rattle.mm_parse_unit.proofs.BoundsCount.{NoStops, stops_append, counted_left, counted_right}
+use Rattle.mm_parse_unit.specs.Units.{NoStops}
+use Rattle.mm_parse_unit.proofs.BoundsCount.{stops_append, counted_left, counted_right}
 use Rattle.mm_parse_unit.proofs.BoundsWeights.{total, Every, maybe_weight, MaybeGood, weight, Good, is_plain, Cost, RuleCosts}
 
 -- A text of the part has as many tokens as its value weighs or more; where it keeps the count, this holds of the value.

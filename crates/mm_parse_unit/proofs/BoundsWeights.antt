@@ -10,7 +10,8 @@ use Rattle.mm_syntax.specs.declared.decl.Member.{Member}
 use Rattle.mm_syntax.specs.declared.decl.Decl.{Decl}
 use Rattle.mm_syntax.specs.Rules.{Rule, unit, decl, item, params, param, inits, init, block, stmt, var, declarator, type_name, args, expr, or, and, eq, rel, add, mul, unary, postfix, primary, Value}
 use Rattle.mm_syntax.specs.Limits.{tokens_of, listed_tokens, exprs_of_stmt, depth_of, variables_of, variables_exprs, initializer_exprs, fn_bodies, fn_inits, fn_params, member_functions, member_count, decl_functions, decl_members}
-use Rattle.mm_parse_unit.proofs.BoundsCount.{NoStops, Counted}
+use Rattle.mm_parse_unit.specs.Units.{NoStops}
+use Rattle.mm_parse_unit.proofs.BoundsCount.{Counted}
 
 abbrev pub total : {A : Type 0} → (A → ℕ) → List A → ℕ
 total f [] = 0

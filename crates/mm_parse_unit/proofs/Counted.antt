@@ -7,6 +7,7 @@ use Rattle.mm_parse_expr.specs.Longest.{count_from, ends_count}
 use Rattle.mm_parse_expr.proofs.Count.{count_snoc}
 use Rattle.mm_parse_unit.specs.Units.{KeepsCount}
 use Rattle.mm_parse_unit.specs.Reading.{IsFirstPast}
+use Rattle.mm_parse_unit.proofs.Stops.{past_counts, past_of}
 
 -- what is counted of the tokens before an index
 pub record Counted (tokens : List Token) (count at : ℕ) : Type 0 where
@@ -24,7 +25,7 @@ nothing_counted tokens = record { counted = refl; keeps = λ before after t e p.
 
 keeps_one : (xs : List Token) (t : Token) → KeepsCount xs → count_from 0 xs < 1000 → KeepsCount (xs ++ t ∷ [])
 keeps_one xs t h n before after u e p = elim (cuts xs (t ∷ []) before (u ∷ after) e) [
-  | equal i j ↦ (let same : count_from 0 xs ≡ count_from 0 before = ap (count_from 0) i in absurd (omega (arith, same, n, p)))
+  | equal i j ↦ (let same : count_from 0 xs ≡ count_from 0 before = ap (count_from 0) i in absurd (omega (arith, same, n, past_counts before p)))
   | later k m i j ↦ h before m k i p
   | earlier k m i j ↦ absurd (no_more m k j)
 ]
@@ -63,4 +64,4 @@ pub all_counted : (tokens : List Token) (count at : ℕ) → Counted tokens coun
 all_counted tokens count at s e = record { within = s.within; counted = s.keeps; past = λ w. absurd (omega (arith, w, e)) }
 
 pub past_limit : (tokens : List Token) (count at : ℕ) → Counted tokens count at → 1000 ≤ count → IsFirstPast tokens at
-past_limit tokens count at s e = record { within = s.within; counted = s.keeps; past = λ w. (let same = s.counted in omega (arith, same, e)) }
+past_limit tokens count at s e = record { within = s.within; counted = s.keeps; past = λ w. (let same = s.counted in past_of (take at tokens) (omega (arith, same, e))) }

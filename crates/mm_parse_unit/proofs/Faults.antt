@@ -1,5 +1,5 @@
 -- From readings of the tokens up to the first one past the limit to units and their first faults.
-use Rattle.std.proofs.Common.{◌≡◌, ℕ, zero, suc, ◌+◌, ◌-◌, ◌<◌, ◌≤◌, Bool, true, false, List, [], ◌∷◌, ◌++◌, inl, inr, length, take, drop, slice_index_or, refl, ap, sym, ◌∙◌, subst, arith, append_assoc, drop-cons, length-take-le, ◌==◌, Err}
+use Rattle.std.proofs.Common.{◌≡◌, ℕ, zero, suc, ◌+◌, ◌-◌, ◌^◌, ◌<◌, ◌≤◌, Bool, true, false, List, [], ◌∷◌, ◌++◌, inl, inr, length, take, drop, slice_index_or, refl, ap, sym, ◌∙◌, subst, arith, append_assoc, drop-cons, length-take-le, ◌==◌, Err}
 use Rattle.std.proofs.lemmas.List.{append-nil, length-append, take_more, take_at, take-append-drop}
 use Rattle.mm_grammar.specs.Grammar.{name, Spells, Stuck, Reads, Fails}
 use Rattle.mm_grammar.proofs.Lists.{same}
@@ -12,11 +12,18 @@ use Rattle.mm_syntax.specs.Rules.{units, unit}
 use Rattle.mm_cursor.specs.declared.Stop.{Stop}
 use Rattle.mm_cursor.specs.declared.Stop.TheVariants as stop
 use Rattle.mm_cursor.specs.Cursor.{Answers}
+<<<<<<< HEAD
 use Rattle.mm_base.specs.declared.code.TheConstants.Code.{Y1, Y2}
 use Rattle.mm_parse_unit.specs.Units.{nesting, unlimited, IsFront, KeepsCount, IsUnit, IsSyntaxFault, IsTreeOf}
 use Rattle.mm_parse_unit.specs.Reading.{IsFirstPast, IsReading, IsNoText, StopsBefore, GoesOn, unit_of}
+=======
+use Rattle.mm_parse_expr.specs.Longest.{y1, y2}
+use Rattle.mm_parse_unit.specs.Units.{nesting, IsFront, KeepsCount, IsUnit, IsSyntaxFault, IsTreeOf}
+use Rattle.mm_parse_unit.specs.Reading.{unlimited, IsFirstPast, IsReading, IsNoText, StopsBefore, GoesOn, unit_of}
+>>>>>>> 592f07e9c5979a139b9242e860e0583715584700
 use Rattle.mm_parse_unit.proofs.Elsewhere.{whole}
 use Rattle.mm_parse_unit.proofs.OneAnswer.{keeps_front}
+use Rattle.mm_parse_unit.proofs.Shallow.{as_many}
 
 -- ---- a list at an index
 
@@ -41,13 +48,18 @@ too_deep ts at t end w s h =
       cut = cut_at ts at t w;
       is_front = s.is_front;
       counted = keeps_front (take at ts) (slice_index_or ts at t ∷ []) (subst (λ u. KeepsCount u) (one_more ts at t w) s.counted);
-      past = inr (record { goes_on = subst (λ u. IsFront unlimited u) e h; too_deep = λ f. s.stuck (subst (λ u. IsFront nesting u) (sym (one_more ts at t w)) f) });
+      past = inr (record { goes_on = (unlimited, subst (λ u. IsFront unlimited u) e h); too_deep = λ f. s.stuck (subst (λ u. IsFront nesting u) (sym (one_more ts at t w)) f) });
       code_is = refl;
       place_is = refl;
     })
 
+<<<<<<< HEAD
 pub no_unit_at : (ts : List Token) (at : ℕ) (t : Token) (end : Place) → at < length ts → StopsBefore ts at → GoesOn (take (at + 1) ts) false → IsSyntaxFault ts end Y1 (slice_index_or ts at t).place
 no_unit_at ts at t end w s h =
+=======
+pub no_unit_at : (ts : List Token) (at : ℕ) (t : Token) (end : Place) → length ts ≤ 2 ^ 20 → at < length ts → StopsBefore ts at → GoesOn (take (at + 1) ts) false → IsSyntaxFault ts end y1 (slice_index_or ts at t).place
+no_unit_at ts at t end short w s h =
+>>>>>>> 592f07e9c5979a139b9242e860e0583715584700
     let e : take (at + 1) ts ≡ take at ts ++ slice_index_or ts at t ∷ [] = take_more ts at t w in
     inl (record {
       front = take at ts;
@@ -55,7 +67,7 @@ no_unit_at ts at t end w s h =
       cut = cut_at ts at t w;
       is_front = s.is_front;
       counted = subst (λ u. KeepsCount u) (one_more ts at t w) s.counted;
-      ends = λ f. h (subst (λ u. IsFront unlimited u) (sym e) f);
+      ends = λ n f. h (as_many n unlimited (take (at + 1) ts) (omega (arith, short, w, length-take-le (at + 1) ts (omega (arith, w)))) (subst (λ u. IsFront n u) (sym e) f));
       code_is = refl;
       place_is = refl;
     })

@@ -8,9 +8,10 @@ pub mod BoundsStmt
 pub mod BoundsDecl
 pub mod BoundsKept
 pub mod Prefixes
-pub mod Deeper
 pub mod OneAnswer
 pub mod Elsewhere
 pub mod Exits
 pub mod Counted
 pub mod Faults
+pub mod Shallow
+pub mod Stops

@@ -1,5 +1,5 @@
 -- Tokens are the text of one unit, or have one first syntax fault.
-use Rattle.std.proofs.Common.{◌≡◌, ℕ, List, [], ◌∷◌, ◌++◌, ◌⊎◌, take, inl, inr, refl, ap, sym, ◌∙◌, arith, subst, append_assoc}
+use Rattle.std.proofs.Common.{◌≡◌, ℕ, List, [], ◌∷◌, ◌++◌, ◌⊎◌, take, inl, inr, refl, ap, sym, ◌∙◌, subst, append_assoc}
 use Rattle.std.proofs.lemmas.List.{append-nil}
 use Rattle.mm_grammar.specs.Grammar.{name, Spells}
 use Rattle.mm_grammar.proofs.Lists.{equal, later, earlier, cuts}
@@ -12,12 +12,8 @@ use Rattle.mm_syntax.specs.Rules.{units, unit}
 use Rattle.mm_syntax.proofs.Claims.{ahead}
 use Rattle.mm_syntax.proofs.Fitting.{fit}
 use Rattle.mm_parse_expr.specs.Longest.{place_of}
-use Rattle.mm_parse_unit.specs.Units.{nesting, unlimited, IsFront, IsPastCount, KeepsCount, IsUnit, EndsHere, IsNoUnit, IsTooDeep, IsPastLimit, IsSyntaxFault, OneAnswer}
+use Rattle.mm_parse_unit.specs.Units.{nesting, IsFront, IsPastCount, KeepsCount, IsUnit, EndsHere, IsNoUnit, IsTooDeep, IsPastLimit, IsSyntaxFault, OneAnswer}
 use Rattle.mm_parse_unit.proofs.Prefixes.{text_begins, front_begins}
-use Rattle.mm_parse_unit.proofs.Deeper.{front_deeper}
-
-pub unlimited_front : (ts : List Token) → IsFront nesting ts → IsFront unlimited ts
-unlimited_front ts h = front_deeper nesting unlimited ts (omega arith) h
 
 -- up to a token
 pub up_to : (n : ℕ) (a e : List Token) (k : Token) → IsFront n (a ++ k ∷ e) → IsFront n (a ++ k ∷ [])
@@ -32,7 +28,7 @@ text_up_to decls tokens a e k cut h = text_begins units (name (unit nesting)) (a
 
 -- no unit goes on past the end of the other
 no_longer : (a e rest : List Token) (k : Token) → EndsHere a (k ∷ rest) → IsFront nesting (a ++ k ∷ e) → ⊥
-no_longer a e rest k ends h = ends (unlimited_front (a ++ k ∷ []) (up_to nesting a e k h))
+no_longer a e rest k ends h = ends nesting (up_to nesting a e k h)
 
 ends_at : (a rest tail : List Token) (k : Token) → rest ≡ k ∷ tail → EndsHere a rest → EndsHere a (k ∷ tail)
 ends_at a rest tail k e h = subst (λ w. EndsHere a w) e h
@@ -80,7 +76,7 @@ end_or_limit : (tokens : List Token) (end : Place) (c d : Code) (p q : Place) �
 end_or_limit tokens end c d p q x y = elim (cuts x.front x.rest y.front (y.token ∷ y.rest) (sym x.cut ∙ y.cut)) [
   | equal i j ↦ elim y.past [
     | inl past ↦ x.counted x.front [] y.token (ap (λ w. x.front ++ take 1 w) j) (subst (λ w. IsPastCount w) (sym i) past)
-    | inr deep ↦ ends_at x.front x.rest y.rest y.token j x.ends (subst (λ w. IsFront unlimited (w ++ y.token ∷ [])) (sym i) deep.goes_on)
+    | inr deep ↦ ends_at x.front x.rest y.rest y.token j x.ends deep.goes_on.0 (subst (λ w. IsFront deep.goes_on.0 (w ++ y.token ∷ [])) (sym i) deep.goes_on.1)
   ]
   | later k e i j ↦
       let token : k ≡ y.token = cc in
@@ -99,7 +95,7 @@ one_fault tokens end c d p q x y = elim x [
 
 no_end : (tokens front rest : List Token) (decls : List Decl) → tokens ≡ front ++ rest → EndsHere front rest → Spells units (name (unit nesting)) tokens decls → ⊥
 no_end tokens front [] decls cut ends h = ends decls (subst (λ w. Spells units (name (unit nesting)) w decls) (cut ∙ append-nil front) h)
-no_end tokens front (k ∷ rest) decls cut ends h = ends (unlimited_front (front ++ k ∷ []) (text_up_to decls tokens front rest k cut h))
+no_end tokens front (k ∷ rest) decls cut ends h = ends nesting (text_up_to decls tokens front rest k cut h)
 
 pub not_both : (tokens : List Token) (decls : List Decl) (end : Place) (code : Code) (place : Place) → IsUnit tokens decls → IsSyntaxFault tokens end code place → ⊥
 not_both tokens decls end code place x y = elim y [

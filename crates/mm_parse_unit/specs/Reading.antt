@@ -1,5 +1,5 @@
 -- What the parts of the parser say of a unit's tokens. Own.
-use Rattle.std.specs.Prelude.{◌≡◌, ℕ, suc, ◌<◌, ◌≤◌, Bool, true, false, List, [], ◌∷◌, ◌++◌, length, take, map}
+use Rattle.std.specs.Prelude.{◌≡◌, ℕ, suc, ◌^◌, ◌<◌, ◌≤◌, Bool, true, false, List, [], ◌∷◌, ◌++◌, length, take, map}
 use Rattle.mm_grammar.specs.Grammar.{has, name, Spells, Stuck}
 use Rattle.mm_base.specs.declared.place.Place.{Place}
 use Rattle.mm_token.specs.declared.token.Token.{Token}
@@ -13,7 +13,7 @@ use Rattle.mm_syntax.specs.Rules.{units, unit}
 use Rattle.mm_parse_expr.specs.Longest.{place_of}
 use Rattle.mm_parse_expr.specs.declared.ParseEnd.{ParseEnd}
 use Rattle.mm_parse_expr.specs.declared.ParseEnd.TheVariants as end_is
-use Rattle.mm_parse_unit.specs.Units.{nesting, unlimited, IsFront, IsPastCount, KeepsCount, IsSyntaxFault}
+use Rattle.mm_parse_unit.specs.Units.{nesting, IsFront, IsPastCount, KeepsCount, IsSyntaxFault}
 
 -- the first tokens of declarations: ISO/IEC 14882:1998, 7 and 9
 abbrev pub begin_decl : List Symbol
@@ -50,7 +50,11 @@ pub record StopsBefore (tokens : List Token) (at : ℕ) : Type 0 where
   pub stuck : IsFront nesting (take (suc at) tokens) → ⊥
   pub counted : KeepsCount (take (suc at) tokens)
 
--- whether a unit may begin with the tokens, where statements may stand one inside the other without a limit
+-- so many statements as no unit has one inside the other: there are as many bytes in the longest
+abbrev pub unlimited : ℕ
+unlimited = 2 ^ 20
+
+-- whether a unit may begin with the tokens, where so many statements may stand one inside the other
 abbrev pub GoesOn : List Token → Bool → Type 0
 GoesOn tokens true = IsFront unlimited tokens
 GoesOn tokens false = IsFront unlimited tokens → ⊥

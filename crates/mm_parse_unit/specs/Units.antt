@@ -1,5 +1,9 @@
 -- What a unit is, its two limits, and the first syntax fault. Own.
+<<<<<<< HEAD
 use Rattle.std.specs.Prelude.{◌≡◌, ℕ, ◌≤◌, List, [], ◌∷◌, ◌++◌, ◌⊎◌, take, Result, Ok, Err}
+=======
+use Rattle.std.specs.Prelude.{◌≡◌, ℕ, false, List, [], ◌∷◌, ◌++◌, ◌⊎◌, length, take, Result, Ok, Err}
+>>>>>>> 592f07e9c5979a139b9242e860e0583715584700
 use Rattle.mm_grammar.specs.Grammar.{name, Spells, Front}
 use Rattle.mm_base.specs.declared.code.Code.{Code}
 use Rattle.mm_base.specs.declared.code.TheConstants.Code.{Y1, Y2}
@@ -10,7 +14,11 @@ use Rattle.mm_token.specs.declared.token.Tokens.{Tokens}
 use Rattle.mm_syntax.specs.declared.decl.Decl.{Decl}
 use Rattle.mm_syntax.specs.declared.decl.Unit.{Unit as UnitTree}
 use Rattle.mm_syntax.specs.Rules.{units, unit}
+<<<<<<< HEAD
 use Rattle.mm_parse_expr.specs.Longest.{count_from, place_of}
+=======
+use Rattle.mm_parse_expr.specs.Longest.{ends_count, place_of, y1, y2}
+>>>>>>> 592f07e9c5979a139b9242e860e0583715584700
 use Rattle.mm_parse_expr.specs.declared.ParseEnd.{ParseEnd}
 use Rattle.mm_parse_expr.specs.declared.ParseEnd.TheVariants as end_is
 
@@ -18,17 +26,35 @@ use Rattle.mm_parse_expr.specs.declared.ParseEnd.TheVariants as end_is
 abbrev pub nesting : ℕ
 nesting = MAX_NESTING
 
+<<<<<<< HEAD
 -- as many as there are bytes in the longest unit, which is no limit
 abbrev pub unlimited : ℕ
 unlimited = MAX_UNIT_BYTES
 
+=======
+>>>>>>> 592f07e9c5979a139b9242e860e0583715584700
 -- A unit may begin with these tokens, where so many statements may stand one inside the other.
 abbrev pub IsFront : ℕ → List Token → Type 0
 IsFront n tokens = Front units (name (unit n)) tokens
 
+<<<<<<< HEAD
 -- The token after these is past the limit: so many stand between the last `;`, `{` or `}` and it.
 abbrev pub IsPastCount : List Token → Type 0
 IsPastCount before = MAX_TOKEN_RUN ≤ count_from 0 before
+=======
+-- none of these is `;`, `{` or `}`
+abbrev pub NoStops : List Token → Type 0
+NoStops [] = Unit {0}
+NoStops (t ∷ ts) = (ends_count t ≡ false) × NoStops ts
+
+-- The token after these is past the limit: they end in 1,000 of which none is `;`, `{` or `}`.
+pub record IsPastCount (before : List Token) : Type 0 where
+  pub first : List Token
+  pub last : List Token
+  pub cut : before ≡ first ++ last
+  pub many : length last ≡ 1000
+  pub none : NoStops last
+>>>>>>> 592f07e9c5979a139b9242e860e0583715584700
 
 -- no token is
 abbrev pub KeepsCount : List Token → Type 0
@@ -39,11 +65,11 @@ pub record IsUnit (tokens : List Token) (decls : List Decl) : Type 0 where
   pub spelled : Spells units (name (unit nesting)) tokens decls
   pub counted : KeepsCount tokens
 
--- No unit goes on with the first of the tokens that are left, however deep its statements nest; or nothing is left,
--- and what was read is no unit.
+-- No unit goes on with the first of the tokens that are left, whatever the limit on nesting; or nothing is left, and what
+-- was read is no unit.
 abbrev pub EndsHere : List Token → List Token → Type 0
 EndsHere front [] = (decls : List Decl) → Spells units (name (unit nesting)) front decls → ⊥
-EndsHere front (t ∷ rest) = IsFront unlimited (front ++ t ∷ []) → ⊥
+EndsHere front (t ∷ rest) = (n : ℕ) → IsFront n (front ++ t ∷ []) → ⊥
 
 -- Y1: the first token with which no unit goes on, or the end. No token up to it is past a limit.
 pub record IsNoUnit (tokens : List Token) (end : Place) (code : Code) (place : Place) : Type 0 where
@@ -56,10 +82,10 @@ pub record IsNoUnit (tokens : List Token) (end : Place) (code : Code) (place : P
   pub code_is : code ≡ Y1
   pub place_is : place ≡ place_of rest end
 
--- The token after these begins a statement that stands in too many others: a unit goes on with it, but none that keeps the
--- limit.
+-- The token after these begins a statement that stands in too many others: for some limit a unit goes on with it, but none
+-- that keeps this one.
 pub record IsTooDeep (front : List Token) (t : Token) : Type 0 where
-  pub goes_on : IsFront unlimited (front ++ t ∷ [])
+  pub goes_on : (n : ℕ) × IsFront n (front ++ t ∷ [])
   pub too_deep : IsFront nesting (front ++ t ∷ []) → ⊥
 
 -- Y2: the first token past a limit. A unit may begin with those before it.

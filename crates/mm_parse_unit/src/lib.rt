@@ -1,7 +1,7 @@
 //! A parser of units.
 #![tactic(auto)]
 
-ghost use Rattle.std.specs.Prelude.{◌≡◌, ◌<◌, IfOk, length, take};
+ghost use Rattle.std.specs.Prelude.{◌≡◌, ◌<◌, ◌≤◌, ◌^◌, IfOk, length, take};
 ghost use Rattle.mm_parse_expr.specs.Longest.{place_of};
 ghost use Rattle.mm_parse_unit.specs.Units.{nesting, Parses};
 ghost use Rattle.mm_parse_unit.specs.Reading.{unit_of, Faults, GoesOn, IsFirstPast, IsNoText, IsReading, StopsBefore};
@@ -25,8 +25,26 @@ use mm_token::token::{Token, Tokens};
 use sqlite_items::Items;
 use std::alloc::{AllocError, Global};
 
+<<<<<<< HEAD
 /// As many as there are bytes in the longest unit, which is no limit.
 const UNLIMITED: usize = MAX_UNIT_BYTES as usize;
+=======
+const NO_TEXT: Code = Code {
+    letter: 89,
+    number: 1,
+};
+
+const PAST_LIMIT: Code = Code {
+    letter: 89,
+    number: 2,
+};
+
+/// How many statements may stand one inside the other.
+const NESTING: usize = 200;
+
+/// As many as there are bytes in the longest unit; no unit has more one inside the other.
+const UNLIMITED: usize = 1_048_576;
+>>>>>>> 592f07e9c5979a139b9242e860e0583715584700
 
 /// The tree of a unit, or its first syntax fault.
 pub fn unit(alloc: Global, tokens: &Tokens) -> Result<Unit, ParseEnd>
@@ -57,6 +75,7 @@ pub fn unit(alloc: Global, tokens: &Tokens) -> Result<Unit, ParseEnd>
 /// The fault of tokens of which those up to an index are within the limit on their count, where this many of these are
 /// left after the longest front of a unit.
 fn first_fault(alloc: Global, tokens: &[Token], at: usize, left: usize, end: Place) -> ParseEnd
+    requires short { length tokens.now ≤ 2 ^ 20 }
     requires first { IsFirstPast tokens.now at }
     requires reading { IsReading (take at tokens.now) left }
     requires no_text { left ≡ 0 → at ≡ length tokens.now → IsNoText tokens.now }
@@ -73,6 +92,7 @@ fn first_fault(alloc: Global, tokens: &[Token], at: usize, left: usize, end: Pla
 
 /// The fault at a token with which no unit within the limits goes on.
 fn fault_at(alloc: Global, tokens: &[Token], at: usize) -> ParseEnd
+    requires short { length tokens.now ≤ 2 ^ 20 }
     requires within { at < length tokens.now }
     requires stops { StopsBefore tokens.now at }
     ensures { (end : Place) → Faults tokens.now end result }
@@ -85,7 +105,7 @@ fn fault_at(alloc: Global, tokens: &[Token], at: usize) -> ParseEnd
     }
 }
 
-/// Whether a unit may begin with the tokens, where statements may stand one inside the other without a limit. The last
+/// Whether a unit may begin with the tokens, where as many statements may stand one inside the other as there are. The last
 /// token alone may be past the limit, so that they nest one deeper at most than a unit does.
 fn goes_on(alloc: Global, tokens: &[Token]) -> Result<bool, Stop>
     ensures { IfOk result (λ v. GoesOn tokens.now v) }

@@ -223,6 +223,32 @@ fn headers_are_read_and_their_faults_stand_in_them(rt: HostRuntime) -> Result<()
     Ok(())
 }
 
+/// A comment behind a directive is a piece like any other, after the text of the file that is included.
+#[test]
+fn a_comment_behind_a_directive_has_its_own_faults(rt: HostRuntime) -> Result<(), Fail> {
+    let rows: [(&[u8], &[u8], u8, &str); 10] = [
+        (b"#pragma once // \xe9", b"", 1, "m.cc:1:17: L1\n"),
+        (b"#pragma once //// \xe9", b"", 1, "m.cc:1:19: L1\n"),
+        (b"#pragma once / \xe9", b"", 1, "m.cc:1:1: L5\n"),
+        (b"#define x // \xe9", b"", 1, "m.cc:1:1: L5\n"),
+        (b"#include // \"a.h\"", b"", 1, "m.cc:1:1: L5\n"),
+        (b"#include \"a.h\" // \xe9", b"", 1, "m.cc:1:19: L1\n"),
+        (b"#include \"a.h\" // \xe9", b"\n /*", 1, "a.h:2:2: L2\n"),
+        (b"#include \"a.h\" // \"\nint main() { return 0; }", b"", 0, ""),
+        (b"#include \"a//h\"", b"", 3, "mmc: no file a//h\n"),
+        (b"#include \"a.h\" \"// \xe9", b"", 1, "m.cc:1:1: L5\n"),
+    ];
+    for (unit, header, wanted, message) in &rows {
+        let mut held = Vec::new(rt.alloc());
+        held.push(entry(rt.alloc(), "m.cc", *unit)?)?;
+        held.push(entry(rt.alloc(), "a.h", *header)?)?;
+        let (status, said) = link_files(rt.alloc(), held)?;
+        assert_eq!(rt; status, *wanted);
+        assert_eq!(rt; said.as_slice(), message.as_bytes());
+    }
+    Ok(())
+}
+
 #[test]
 fn a_unit_has_at_most_a_mebibyte_with_its_headers(rt: HostRuntime) -> Result<(), Fail> {
     let unit: &[u8] = b"#include \"a.h\"\nint main() { return 0; }";

@@ -14,7 +14,8 @@ use Rattle.mm_syntax.specs.declared.name.UnaryOperator.TheVariants as unary
 use Rattle.mm_syntax.specs.declared.walk.Built.TheVariants.{Nothing, Call}
 use Rattle.mm_syntax.specs.declared.walk.Seen.{Seen}
 use Rattle.mm_syntax.specs.declared.walk.Inside.{Inside}
-use Rattle.mm_syntax.specs.Forms.{Shown, Mark, first_of, is_among, marks_of, all_built, all_statements, is_built, is_statement, scalar_mark, plain, of_form, only_if, is_callee, is_sum, call_shown, made_shown, unary_shown, shown_expr}
+use Rattle.mm_syntax.specs.Forms.{Shown, Mark, first_of, is_among, marks_of, all_built, all_statements, is_built, is_statement, scalar_mark, plain, of_form, only_if, is_callee, is_sum, call_shown, made_shown, unary_shown}
+use Rattle.mm_syntax.specs.Shown.{shown_expr}
 use Rattle.mm_syntax.specs.Walk.{seen, inside, or_else, next, no_tree, one_tree, two_trees, three_trees, formed, plainly, unary_seen, Adds}
 
 or_else_none : (a : Option Place) → or_else a None ≡ a

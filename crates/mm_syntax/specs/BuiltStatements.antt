@@ -10,11 +10,12 @@ use Rattle.mm_syntax.specs.declared.stmt.Variables.{Variables}
 use Rattle.mm_syntax.specs.declared.stmt.Initializer.{Initializer}
 use Rattle.mm_syntax.specs.declared.stmt.Initializer.TheVariants as initializer
 use Rattle.mm_syntax.specs.declared.stmt.ForStart.{ForStart}
-use Rattle.mm_syntax.specs.declared.stmt.Stmt.{Stmt, fold-Stmt}
+use Rattle.mm_syntax.specs.declared.stmt.Stmt.{Stmt}
 use Rattle.mm_syntax.specs.declared.stmt.StmtKind.{StmtKind}
-use Rattle.mm_syntax.specs.declared.stmt.StmtKind.TheOpen.{StmtKind-F}
 use Rattle.mm_syntax.specs.declared.stmt.StmtKind.TheVariants as s
 use Rattle.mm_syntax.specs.declared.part.Begun.{Begun}
+use Rattle.mm_syntax.specs.Tree as t
+use Rattle.mm_syntax.specs.View.{stmt_view}
 use Rattle.mm_syntax.specs.Built.{name_of}
 
 abbrev pub statement : StmtKind → Place → Stmt
@@ -62,12 +63,12 @@ abbrev pub variables : TypeName → List Declarator → Variables
 variables type_name names = record { type_name = type_name; names = names }
 
 -- Whether `else` can't go on after the statement: it doesn't end in an `if` that has none.
-abbrev pub closes : StmtKind-F Bool Bool → Bool
-closes (StmtKind-F.If condition body) = false
-closes (StmtKind-F.Choose condition body other) = other
-closes (StmtKind-F.While condition body) = body
-closes (StmtKind-F.For first condition step body) = body
+abbrev pub closes : t.Stmt → Bool
+closes (t.if_then p x a) = false
+closes (t.if_else p x a b) = closes b
+closes (t.while_do p x a) = closes a
+closes (t.for_do p first x y a) = closes a
 closes _ = true
 
 abbrev pub is_closed : Stmt → Bool
-is_closed = fold-Stmt Bool Bool closes (λ x. x.kind)
+is_closed s = closes (stmt_view s)

@@ -10,40 +10,19 @@ use Rattle.mm_syntax.specs.declared.name.UnaryOperator.TheVariants as unary
 use Rattle.mm_syntax.specs.declared.name.BinaryOperator.{BinaryOperator}
 use Rattle.mm_syntax.specs.declared.name.BinaryOperator.TheVariants as binary
 use Rattle.mm_syntax.specs.declared.name.DeclaratorMark.{DeclaratorMark}
-use Rattle.mm_syntax.specs.declared.expr.Expr.{Expr, fold-Expr}
-use Rattle.mm_syntax.specs.declared.expr.ExprKind.TheOpen.{ExprKind-F}
 use Rattle.mm_syntax.specs.declared.expr.TypeName.{TypeName}
 use Rattle.mm_syntax.specs.declared.expr.TypeNameKind.{TypeNameKind}
 use Rattle.mm_syntax.specs.declared.expr.TypeNameKind.TheVariants as type
-use Rattle.mm_syntax.specs.declared.stmt.Initializer.{Initializer}
-use Rattle.mm_syntax.specs.declared.stmt.Initializer.TheVariants as initializer
-use Rattle.mm_syntax.specs.declared.stmt.Declarator.{Declarator}
-use Rattle.mm_syntax.specs.declared.stmt.Variables.{Variables}
-use Rattle.mm_syntax.specs.declared.stmt.ForStart.{ForStart}
-use Rattle.mm_syntax.specs.declared.stmt.ForStart.TheVariants as start
-use Rattle.mm_syntax.specs.declared.stmt.Stmt.{Stmt, fold-Stmt}
-use Rattle.mm_syntax.specs.declared.stmt.StmtKind.TheOpen.{StmtKind-F}
 use Rattle.mm_syntax.specs.declared.decl.Param.{Param}
 use Rattle.mm_syntax.specs.declared.decl.Head.{Head}
-use Rattle.mm_syntax.specs.declared.decl.Init.{Init}
-use Rattle.mm_syntax.specs.declared.decl.ConstructorBody.{ConstructorBody}
-use Rattle.mm_syntax.specs.declared.decl.FnDecl.{FnDecl}
-use Rattle.mm_syntax.specs.declared.decl.FnDeclKind.{FnDeclKind}
-use Rattle.mm_syntax.specs.declared.decl.FnDeclKind.TheVariants as f
-use Rattle.mm_syntax.specs.declared.decl.Member.{Member}
-use Rattle.mm_syntax.specs.declared.decl.Member.TheVariants as m
-use Rattle.mm_syntax.specs.declared.decl.ClassDecl.{ClassDecl}
-use Rattle.mm_syntax.specs.declared.decl.ClassDeclKind.{ClassDeclKind}
-use Rattle.mm_syntax.specs.declared.decl.ClassDeclKind.TheVariants as c
-use Rattle.mm_syntax.specs.declared.decl.Decl.{Decl}
-use Rattle.mm_syntax.specs.declared.decl.DeclKind.{DeclKind}
-use Rattle.mm_syntax.specs.declared.decl.DeclKind.TheVariants as d
-use Rattle.mm_syntax.specs.declared.decl.Unit.{Unit as UnitTree}
+use Rattle.mm_syntax.specs.declared.decl.Unit.{Unit as UnitInMemory}
 use Rattle.mm_syntax.specs.declared.form.Form.{Form}
 use Rattle.mm_syntax.specs.declared.form.Forms.{Forms as FormSet}
 use Rattle.mm_syntax.specs.declared.form.Form.TheVariants as form
 use Rattle.mm_syntax.specs.declared.walk.Built.{Built}
 use Rattle.mm_syntax.specs.declared.walk.Built.TheVariants as built
+use Rattle.mm_syntax.specs.Tree as t
+use Rattle.mm_syntax.specs.View.{unit_view}
 
 -- A tree of a form, with the place of its first token.
 pub record Mark : Type 0 where
@@ -167,26 +146,27 @@ made_shown place xs = of_form (make_form xs) place xs
 abbrev pub call_shown : Place → Shown → List Shown → Shown
 call_shown place x xs = plain (call_built x.built xs) place (x ∷ xs)
 
-abbrev pub expr_shown : ExprKind-F (Place → Shown) Shown → Place → Shown
-expr_shown (ExprKind-F.Number n) place = plain (number_built n) place []
-expr_shown ExprKind-F.True place = plain built.Nothing place []
-expr_shown ExprKind-F.False place = plain built.Nothing place []
-expr_shown ExprKind-F.This place = of_form form.Object place []
-expr_shown (ExprKind-F.Name text) place = plain (name_built text) place []
-expr_shown (ExprKind-F.Scoped class word) place = of_form form.Object place []
-expr_shown (ExprKind-F.Cast class x) place = of_form form.Cast place (x ∷ [])
-expr_shown (ExprKind-F.Unary op x) place = unary_shown op place x
-expr_shown (ExprKind-F.Step x op at) place = plain built.Nothing place (x ∷ [])
-expr_shown (ExprKind-F.Binary a op at b) place = plain (sum_built op a.built b.built) place (a ∷ b ∷ [])
-expr_shown (ExprKind-F.Choose a at b c) place = plain built.Nothing place (a ∷ b ∷ c ∷ [])
-expr_shown (ExprKind-F.Assign a op at b) place = plain built.Nothing place (a ∷ b ∷ [])
-expr_shown (ExprKind-F.New class) place = of_form form.Object place []
-expr_shown (ExprKind-F.Make class xs) place = made_shown place xs
-expr_shown (ExprKind-F.Call x xs) place = call_shown place x xs
-expr_shown (ExprKind-F.Member x op at class word) place = of_form form.Object place (x ∷ [])
+abbrev mutual
+  pub expr_shows : t.Expr → Shown
+  expr_shows (t.number p n) = plain (number_built n) p []
+  expr_shows (t.boolean p b) = plain built.Nothing p []
+  expr_shows (t.this p) = of_form form.Object p []
+  expr_shows (t.name p text) = plain (name_built text) p []
+  expr_shows (t.scoped p class word) = of_form form.Object p []
+  expr_shows (t.cast p class x) = of_form form.Cast p (expr_shows x ∷ [])
+  expr_shows (t.unary p op x) = unary_shown op p (expr_shows x)
+  expr_shows (t.step p x op at) = plain built.Nothing p (expr_shows x ∷ [])
+  expr_shows (t.binary p a op at b) = plain (sum_built op (expr_shows a).built (expr_shows b).built) p (expr_shows a ∷ expr_shows b ∷ [])
+  expr_shows (t.choose p a at b c) = plain built.Nothing p (expr_shows a ∷ expr_shows b ∷ expr_shows c ∷ [])
+  expr_shows (t.assign p a op at b) = plain built.Nothing p (expr_shows a ∷ expr_shows b ∷ [])
+  expr_shows (t.new p class) = of_form form.Object p []
+  expr_shows (t.make p class xs) = made_shown p (exprs_show xs)
+  expr_shows (t.call p x xs) = call_shown p (expr_shows x) (exprs_show xs)
+  expr_shows (t.member p x op at class word) = of_form form.Object p (expr_shows x ∷ [])
 
-abbrev pub shown_expr : Expr → Shown
-shown_expr = fold-Expr (Place → Shown) Shown expr_shown (λ x. x.kind x.place)
+  pub exprs_show : t.Exprs → List Shown
+  exprs_show t.no_exprs = []
+  exprs_show (t.expr_and x xs) = expr_shows x ∷ exprs_show xs
 
 abbrev pub type_shown : TypeNameKind → Place → Shown
 type_shown (type.Class text) place = of_form form.Object place []
@@ -195,9 +175,9 @@ type_shown kind place = plain (type_built kind) place []
 abbrev pub shown_type : TypeName → Shown
 shown_type x = type_shown x.kind x.place
 
-abbrev pub maybe_expr : Option Expr → List Shown
-maybe_expr None = []
-maybe_expr (Some x) = shown_expr x ∷ []
+abbrev pub maybe_shows : Option t.Expr → List Shown
+maybe_shows None = []
+maybe_shows (Some x) = expr_shows x ∷ []
 
 -- ---- statements
 
@@ -207,42 +187,41 @@ mark_or None place = place
 mark_or (Some mark) place = mark.place
 
 -- A declarator whose initializer is in parentheses is of a form; any other is no tree.
-abbrev pub initial_shown : Place → Initializer → List Shown
-initial_shown place initializer.Nothing = []
-initial_shown place (initializer.Value x) = shown_expr x ∷ []
-initial_shown place (initializer.Arguments xs) = of_form form.Construct place (map shown_expr xs) ∷ []
+abbrev pub initializer_shows : Place → t.Initializer → List Shown
+initializer_shows place t.no_initial = []
+initializer_shows place (t.initial x) = expr_shows x ∷ []
+initializer_shows place (t.arguments xs) = of_form form.Construct place (exprs_show xs) ∷ []
 
-abbrev pub declarator_shown : Declarator → List Shown
-declarator_shown x = initial_shown (mark_or x.mark x.name.place) x.initializer
+abbrev pub declarator_shows : t.Declarator → List Shown
+declarator_shows x = initializer_shows (mark_or x.mark x.name.place) x.initializer
 
-abbrev pub variables_shown : Variables → List Shown
-variables_shown x = shown_type x.type_name ∷ flat_map declarator_shown x.names
+abbrev pub variables_show : t.Variables → List Shown
+variables_show x = shown_type x.type_name ∷ flat_map declarator_shows x.names
 
-abbrev pub start_shown : ForStart → List Shown
-start_shown start.Nothing = []
-start_shown (start.Expr x) = shown_expr x ∷ []
-start_shown (start.Variables x) = plain built.Nothing x.type_name.place (variables_shown x) ∷ []
+abbrev pub start_shows : t.Start → List Shown
+start_shows t.no_start = []
+start_shows (t.start_expr x) = expr_shows x ∷ []
+start_shows (t.start_variables x) = plain built.Nothing x.type_name.place (variables_show x) ∷ []
 
-abbrev pub return_shown : Option Expr → Place → Shown
-return_shown None place = plain built.Nothing place []
-return_shown (Some x) place = plain (return_built (shown_expr x).built) place (shown_expr x ∷ [])
+abbrev mutual
+  pub stmt_shows : t.Stmt → Shown
+  stmt_shows (t.block p ss) = plain (block_built (stmts_show ss)) p (stmts_show ss)
+  stmt_shows (t.empty p) = plain built.Nothing p []
+  stmt_shows (t.run p x) = plain (run_built (expr_shows x).built) p (expr_shows x ∷ [])
+  stmt_shows (t.declare p x) = plain built.Nothing p (variables_show x)
+  stmt_shows (t.if_then p x a) = plain built.Nothing p (expr_shows x ∷ stmt_shows a ∷ [])
+  stmt_shows (t.if_else p x a b) = plain built.Nothing p (expr_shows x ∷ stmt_shows a ∷ stmt_shows b ∷ [])
+  stmt_shows (t.while_do p x a) = plain built.Nothing p (expr_shows x ∷ stmt_shows a ∷ [])
+  stmt_shows (t.do_while p a x) = plain built.Nothing p (stmt_shows a ∷ expr_shows x ∷ [])
+  stmt_shows (t.for_do p first x y a) = plain built.Nothing p (start_shows first ++ maybe_shows x ++ maybe_shows y ++ stmt_shows a ∷ [])
+  stmt_shows (t.break p) = plain built.Nothing p []
+  stmt_shows (t.continue p) = plain built.Nothing p []
+  stmt_shows (t.return_nothing p) = plain built.Nothing p []
+  stmt_shows (t.return p x) = plain (return_built (expr_shows x).built) p (expr_shows x ∷ [])
 
-abbrev pub stmt_shown : StmtKind-F (Place → Shown) Shown → Place → Shown
-stmt_shown (StmtKind-F.Block xs) place = plain (block_built xs) place xs
-stmt_shown StmtKind-F.Empty place = plain built.Nothing place []
-stmt_shown (StmtKind-F.Expr x) place = plain (run_built (shown_expr x).built) place (shown_expr x ∷ [])
-stmt_shown (StmtKind-F.Variables x) place = plain built.Nothing place (variables_shown x)
-stmt_shown (StmtKind-F.If x a) place = plain built.Nothing place (shown_expr x ∷ a ∷ [])
-stmt_shown (StmtKind-F.Choose x a b) place = plain built.Nothing place (shown_expr x ∷ a ∷ b ∷ [])
-stmt_shown (StmtKind-F.While x a) place = plain built.Nothing place (shown_expr x ∷ a ∷ [])
-stmt_shown (StmtKind-F.Do a x) place = plain built.Nothing place (a ∷ shown_expr x ∷ [])
-stmt_shown (StmtKind-F.For first x y a) place = plain built.Nothing place (start_shown first ++ maybe_expr x ++ maybe_expr y ++ a ∷ [])
-stmt_shown StmtKind-F.Break place = plain built.Nothing place []
-stmt_shown StmtKind-F.Continue place = plain built.Nothing place []
-stmt_shown (StmtKind-F.Return x) place = return_shown x place
-
-abbrev pub shown_stmt : Stmt → Shown
-shown_stmt = fold-Stmt (Place → Shown) Shown stmt_shown (λ x. x.kind x.place)
+  pub stmts_show : t.Stmts → List Shown
+  stmts_show t.no_stmts = []
+  stmts_show (t.stmt_and s ss) = stmt_shows s ∷ stmts_show ss
 
 -- ---- functions
 
@@ -272,57 +251,48 @@ is_main x = is_type (shown_type x.type_name).built && (is_absent x.mark && (byte
 abbrev pub function_built : Head → Built → Built
 function_built x body = only_if (is_main x && is_block body) built.Function
 
-abbrev pub init_shown : Init → List Shown
-init_shown x = map shown_expr x.arguments
+abbrev pub init_shows : t.Init → List Shown
+init_shows x = exprs_show x.arguments
 
-abbrev pub body_shown : ConstructorBody → List Shown
-body_shown x = flat_map init_shown x.inits ++ shown_stmt x.block ∷ []
+abbrev pub body_shows : t.ConstructorBody → List Shown
+body_shows x = flat_map init_shows x.inits ++ stmt_shows x.block ∷ []
 
-abbrev pub maybe_body : Option ConstructorBody → List Shown
-maybe_body None = []
-maybe_body (Some x) = body_shown x
+abbrev pub maybe_body_shows : Option t.ConstructorBody → List Shown
+maybe_body_shows None = []
+maybe_body_shows (Some x) = body_shows x
 
-abbrev pub maybe_block : Option Stmt → List Shown
-maybe_block None = []
-maybe_block (Some x) = shown_stmt x ∷ []
+abbrev pub maybe_block_shows : Option t.Stmt → List Shown
+maybe_block_shows None = []
+maybe_block_shows (Some x) = stmt_shows x ∷ []
 
 abbrev pub method_form : Option Place → Form
 method_form None = form.Object
 method_form (Some place) = form.Virtual
 
-abbrev pub fn_shown : FnDeclKind → Place → Shown
-fn_shown (f.Declaration x) place = plain built.Nothing place (head_shown x)
-fn_shown (f.Definition x body) place = plain (function_built x (shown_stmt body).built) place (head_shown x ++ shown_stmt body ∷ [])
-fn_shown (f.MemberDefinition class x body) place = of_form form.Object place (head_shown x ++ shown_stmt body ∷ [])
-fn_shown (f.ConstructorDefinition class word params body) place = of_form form.Construct place (map param_shown params.list ++ body_shown body)
-fn_shown (f.Method virtual_at x body) place = of_form (method_form virtual_at) place (head_shown x ++ maybe_block body)
-fn_shown (f.Destructor virtual_at word has_void) place = of_form form.Object place []
-fn_shown (f.Constructor word params body) place = of_form form.Construct place (map param_shown params.list ++ maybe_body body)
-
-abbrev pub shown_fn : FnDecl → Shown
-shown_fn x = fn_shown x.kind x.place
+abbrev pub function_shows : t.Function → Shown
+function_shows (t.declaration p x) = plain built.Nothing p (head_shown x)
+function_shows (t.definition p x body) = plain (function_built x (stmt_shows body).built) p (head_shown x ++ stmt_shows body ∷ [])
+function_shows (t.member_definition p class x body) = of_form form.Object p (head_shown x ++ stmt_shows body ∷ [])
+function_shows (t.constructor_definition p class word params body) = of_form form.Construct p (map param_shown params.list ++ body_shows body)
+function_shows (t.method p virtual_at x body) = of_form (method_form virtual_at) p (head_shown x ++ maybe_block_shows body)
+function_shows (t.destructor p virtual_at word has_void) = of_form form.Object p []
+function_shows (t.constructor p word params body) = of_form form.Construct p (map param_shown params.list ++ maybe_body_shows body)
 
 -- ---- classes and units
 
-abbrev pub member_shown : Member → List Shown
-member_shown (m.Access access) = []
-member_shown (m.Fields x names) = shown_type x ∷ []
-member_shown (m.Function x) = shown_fn x ∷ []
+abbrev pub item_shows : t.Item → List Shown
+item_shows (t.access a) = []
+item_shows (t.fields x names) = shown_type x ∷ []
+item_shows (t.function_item x) = function_shows x ∷ []
 
-abbrev pub class_shown : ClassDeclKind → Place → Shown
-class_shown (c.Declaration word class) place = of_form form.Object place []
-class_shown (c.Definition word class bases members text) place = of_form form.Object place (flat_map member_shown members)
-
-abbrev pub shown_class : ClassDecl → Shown
-shown_class x = class_shown x.kind x.place
+abbrev pub class_shows : t.Class → Shown
+class_shows (t.class_declaration p key class) = of_form form.Object p []
+class_shows (t.class_definition p key class bases items text) = of_form form.Object p (flat_map item_shows items)
 
 -- A declaration is the class or the function that it declares.
-abbrev pub decl_shown : DeclKind → Shown
-decl_shown (d.Class x) = shown_class x
-decl_shown (d.Function x) = shown_fn x
-
-abbrev pub shown_decl : Decl → Shown
-shown_decl x = decl_shown x.kind
+abbrev pub decl_shows : t.Decl → Shown
+decl_shows (t.class_decl p x) = class_shows x
+decl_shows (t.function_decl p x) = function_shows x
 
 -- A unit of one function, or of no declaration, is no scalar tree.
 abbrev pub unit_built : List Shown → Built
@@ -330,8 +300,12 @@ unit_built [] = built.Function
 unit_built (x ∷ []) = x.built
 unit_built (x ∷ (y ∷ more)) = built.Nothing
 
-abbrev pub shown_unit : UnitTree → Shown
-shown_unit x = plain (unit_built (map shown_decl x.decls)) x.place (map shown_decl x.decls)
+abbrev pub unit_shows : t.UnitTree → Shown
+unit_shows x = plain (unit_built (map decl_shows x.decls)) x.place (map decl_shows x.decls)
+
+-- of a unit in memory
+abbrev pub shown_unit : UnitInMemory → Shown
+shown_unit x = unit_shows (unit_view x)
 
 -- ---- the first tree of a form
 

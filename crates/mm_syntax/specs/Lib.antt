@@ -1,10 +1,15 @@
 pub mod Symbols
 pub mod Numbers
+pub mod Tree
+pub mod View
+pub mod First
+pub mod Spelled
 pub mod Built
 pub mod BuiltStatements
 pub mod BuiltDeclarations
 pub mod Rules
 pub mod Forms
+pub mod Shown
 pub mod Walk
 pub mod Limits
 pub mod Laws

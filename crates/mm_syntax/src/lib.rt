@@ -3,6 +3,7 @@
 
 pub mod decl;
 pub mod expr;
+pub mod first;
 pub mod form;
 pub mod law;
 pub mod name;

@@ -1,8 +1,10 @@
 // The first tree of a form.
+#![tactic(auto, using(crate::proofs::Shown::shown_rules))]
 
 ghost use Rattle.std.specs.List.{flat_map};
 ghost use Rattle.std.specs.Prelude.{◌≡◌, ◌&&◌, not, ◌∷◌, [], ◌++◌, List, map};
-ghost use Rattle.mm_syntax.specs.Forms.{only, is_built, is_sum, is_number, is_plus, is_callee, is_statement, is_block, is_type, number_built, name_built, sum_built, run_built, return_built, only_if, call_built, shown_expr, Shown, made_shown, call_shown, plain, shown_type, maybe_expr, mark_or, declarator_shown, variables_shown, start_shown, block_built, return_shown, shown_stmt, param_shown, head_shown, is_main, function_built, init_shown, body_shown, maybe_body, maybe_block, method_form, shown_fn, member_shown, shown_class, shown_decl, shown_unit, first_of, of_form, fn_shown};
+ghost use Rattle.mm_syntax.specs.Forms.{only, is_built, is_sum, is_number, is_plus, is_callee, is_statement, is_block, is_type, number_built, name_built, sum_built, run_built, return_built, only_if, call_built, Shown, made_shown, call_shown, plain, shown_type, mark_or, block_built, param_shown, head_shown, is_main, function_built, method_form, shown_unit, first_of, of_form};
+ghost use Rattle.mm_syntax.specs.Shown.{shown_expr, maybe_expr, declarator_shown, variables_shown, start_shown, return_shown, shown_stmt, init_shown, body_shown, maybe_body, maybe_block, shown_fn, member_shown, shown_class, shown_decl, fn_shown, unit_shown};
 ghost use Rattle.mm_syntax.specs.declared.walk.Built.TheVariants.{Call, Nothing};
 ghost use Rattle.mm_syntax.specs.Walk.{seen, inside, next, no_tree, one_tree, two_trees, three_trees, formed, plainly, unary_seen, Adds};
 
@@ -750,7 +752,7 @@ fn decls(wanted: Forms, list: &[Decl]) -> Inside
 
 /// Of a unit.
 fn unit_tree(wanted: Forms, tree: &Unit) -> Seen
-    ensures { result ≡ seen wanted (shown_unit tree.now) }
+    ensures { result ≡ seen wanted (unit_shown tree.now) }
 {
     match tree.decls.as_slice() {
         [] => plain(wanted, Built::Function, tree.place, Inside::new()),

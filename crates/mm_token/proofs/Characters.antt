@@ -119,17 +119,17 @@ head_is_character : (c : ℕ) → (sort_of c ≡ sort_is.Slash) ⊎ (sort_of c �
 head_is_character c (inl e) = sort_is_character c sort_is.Slash e (λ h. absurd (cc))
 head_is_character c (inr e) = sort_is_character c sort_is.Punctuation e (λ h. absurd (cc))
 
-pub token_is_text : (fresh : Bool) (kind : Shape) (cs : List ℕ) → IsPiece fresh kind cs → IsText kind cs
-token_is_text fresh shape.Blank cs h = tt
-token_is_text fresh shape.Line cs h = tt
-token_is_text fresh shape.Block cs h = tt
-token_is_text fresh shape.Open cs h = tt
-token_is_text fresh shape.Directive cs h = tt
-token_is_text fresh shape.Word [] h = absurd h
-token_is_text fresh shape.Word (c ∷ cs) h = both (is_character c) (is_text cs) (sort_is_character c sort_is.Letter h.0 (λ e. absurd (cc))) (continued cs h.1)
-token_is_text fresh shape.Number [] h = absurd h
-token_is_text fresh shape.Number (c ∷ cs) h = both (is_character c) (is_text cs) (sort_is_character c sort_is.Digit h.0 (λ e. absurd (cc))) (continued cs h.1)
-token_is_text fresh shape.Mark [] h = absurd h
-token_is_text fresh shape.Mark (c ∷ []) h = both (is_character c) true (head_is_character c (elim h [ inl a ↦ inl a | inr b ↦ inr b.0 ])) refl
-token_is_text fresh shape.Mark (c ∷ d ∷ []) h = both (is_character c) (is_character d && true) (head_is_character c h.0) (both (is_character d) true (pair_second c d h.1) refl)
-token_is_text fresh shape.Mark (c ∷ d ∷ e ∷ cs) h = absurd h
+pub token_is_text : (fresh : Bool) (kind : Shape) (cs rest : List ℕ) → IsPiece fresh kind cs rest → IsText kind cs
+token_is_text fresh shape.Blank cs rest h = tt
+token_is_text fresh shape.Line cs rest h = tt
+token_is_text fresh shape.Block cs rest h = tt
+token_is_text fresh shape.Open cs rest h = tt
+token_is_text fresh shape.Directive cs rest h = tt
+token_is_text fresh shape.Word [] rest h = absurd h
+token_is_text fresh shape.Word (c ∷ cs) rest h = both (is_character c) (is_text cs) (sort_is_character c sort_is.Letter h.0 (λ e. absurd (cc))) (continued cs h.1)
+token_is_text fresh shape.Number [] rest h = absurd h
+token_is_text fresh shape.Number (c ∷ cs) rest h = both (is_character c) (is_text cs) (sort_is_character c sort_is.Digit h.0 (λ e. absurd (cc))) (continued cs h.1)
+token_is_text fresh shape.Mark [] rest h = absurd h
+token_is_text fresh shape.Mark (c ∷ []) rest h = both (is_character c) true (head_is_character c (elim h [ inl a ↦ inl a | inr b ↦ inr b.0 ])) refl
+token_is_text fresh shape.Mark (c ∷ d ∷ []) rest h = both (is_character c) (is_character d && true) (head_is_character c h.0) (both (is_character d) true (pair_second c d h.1) refl)
+token_is_text fresh shape.Mark (c ∷ d ∷ e ∷ cs) rest h = absurd h

@@ -1,5 +1,5 @@
 -- The forms of directives.
-use Rattle.std.proofs.Common.{◌≡◌, ℕ, suc, ◌<◌, ◌+◌, Bool, true, false, not, ◌&&◌, ◌==◌, if◌then◌else◌, IsTrue, List, [], ◌∷◌, ◌++◌, ◌⊎◌, inl, inr, length, take, drop, get_or, refl, arith, sym, ◌∙◌, ap, subst, Option, Some, None, append-nil, length-append, add-one, length-drop, length-take}
+use Rattle.std.proofs.Common.{◌≡◌, ℕ, suc, ◌<◌, ◌+◌, Bool, true, false, not, ◌&&◌, ◌==◌, if◌then◌else◌, IsTrue, List, [], ◌∷◌, ◌++◌, length, take, drop, get_or, refl, arith, sym, ◌∙◌, ap, subst, Option, Some, None, append-nil, length-append, add-one, length-drop, length-take}
 use Rattle.std.specs.Prelude.{codes, nat_lt, position}
 use Rattle.std.specs.List.{list_all, position_or_len}
 use Rattle.std.specs.Str.{IsUtf8, chars}
@@ -8,8 +8,8 @@ use Rattle.std.proofs.lemmas.List.{take_all, nil_from_length}
 use Rattle.std.proofs.lemmas.List.Quantifiers.{position-Some}
 use Rattle.std.proofs.lemmas.Str.{utf8_valid_len-IsUtf8}
 use Rattle.mm_token.specs.Characters.{characters_of, spoiled, is_text, is_blank}
-use Rattle.mm_token.specs.Words.{past_blanks, past_word, is_end, ends_line, named_up_to, named_by, quoted, included_name, is_once_behind, is_once, is_pragma_once}
-use Rattle.mm_token.specs.Forms.{AllBlank, EndsLine, IsInclude, IsPragma}
+use Rattle.mm_token.specs.Words.{past_blanks, past_word, ends_line, named_up_to, named_by, quoted, included_name, is_once_behind, is_once, is_pragma_once}
+use Rattle.mm_token.specs.Forms.{AllBlank, IsInclude, IsPragma}
 use Rattle.mm_token.proofs.Lemmas.{both, and_left, and_right, all_of_take, run_split}
 
 -- ---- white space
@@ -49,26 +49,6 @@ word_is (w ∷ ws) (c ∷ cs) r e = by (w == c) refl (word_is ws cs r) e
     by : (b : Bool) → (w == c) ≡ b → (past_word ws cs ≡ Some r → cs ≡ ws ++ r) → (if b then past_word ws cs else None) ≡ Some r → c ∷ cs ≡ w ∷ (ws ++ r)
     by true i f e = let s : c ≡ w = grind (arith, i) in let t : cs ≡ ws ++ r = f e in cc
     by false i f e = absurd (cc)
-
--- ---- the end of a line
-
-ends_is : (cs : List ℕ) → IsTrue (ends_line cs) → EndsLine cs
-ends_is cs h = record { blank = blanks cs; rest = past_blanks cs; is_all = (blanks_split cs).0; is_blank = (blanks_split cs).1; is_end = by (past_blanks cs) h }
-  where
-    by : (r : List ℕ) → IsTrue (is_end r) → (r ≡ []) ⊎ ((comment : List ℕ) × (r ≡ 47 ∷ 47 ∷ comment))
-    by [] h = inl refl
-    by (c ∷ []) h = absurd (cc)
-    by (c ∷ d ∷ r) h =
-        let a : c ≡ 47 = let i = and_left (c == 47) (d == 47) h in grind (arith, i) in
-        let b : d ≡ 47 = let i = and_right (c == 47) (d == 47) h in grind (arith, i) in
-        inr (r, rw (a, b) refl)
-
-is_ends : (cs : List ℕ) → EndsLine cs → IsTrue (ends_line cs)
-is_ends cs e = subst (λ r. IsTrue (is_end r)) (sym (ap past_blanks e.is_all ∙ past_append e.blank e.rest e.is_blank)) (by e.rest e.is_end)
-  where
-    by : (r : List ℕ) → (r ≡ []) ⊎ ((comment : List ℕ) × (r ≡ 47 ∷ 47 ∷ comment)) → IsTrue (is_end (past_blanks r))
-    by r (inl i) = rw i refl
-    by r (inr i) = rw i.1 refl
 
 -- ---- the name
 
@@ -158,7 +138,7 @@ include rest name e = by (is_text (35 ∷ rest)) refl e
           between_blank = (blanks_split r).1;
           some = n.some;
           no_quote = n.no_quote;
-          ends = ends_is n.behind n.ends;
+          behind_blank = n.ends;
         }
 
     quote : IsTrue (is_text (35 ∷ rest)) → (r : List ℕ) → past_word (codes "include") (past_blanks rest) ≡ Some r → (o : Option (List ℕ)) → past_word (34 ∷ []) (past_blanks r) ≡ o → named_by o ≡ Some name → IsInclude (35 ∷ rest) name
@@ -181,7 +161,7 @@ included line name i =
     let e : past_blanks (drop 1 line) ≡ codes "include" ++ r =
     ap (λ x. past_blanks (drop 1 x)) i.is_line ∙ past_append i.before (codes "include" ++ r) i.before_blank in
     let f : past_word (codes "include") (past_blanks (drop 1 line)) ≡ Some r = ap (past_word (codes "include")) e ∙ word_append (codes "include") r in
-    let g : quoted (Some r) ≡ Some name = ap (λ x. named_by (past_word (34 ∷ []) x)) (past_append i.between (34 ∷ tail) i.between_blank) ∙ named_is name i.behind i.some i.no_quote (is_ends i.behind i.ends) in
+    let g : quoted (Some r) ≡ Some name = ap (λ x. named_by (past_word (34 ∷ []) x)) (past_append i.between (34 ∷ tail) i.between_blank) ∙ named_is name i.behind i.some i.no_quote i.behind_blank in
     rw i.text (ap quoted f ∙ g)
 
 pub utf8 : (bytes : List ℕ) → IsUtf8 bytes → characters_of bytes ≡ chars bytes
@@ -212,7 +192,7 @@ pragma rest h =
           before_blank = (blanks_split rest).1;
           some = omega arith;
           between_blank = both (is_blank c) (list_all is_blank (blanks r)) b (blanks_split r).1;
-          ends = ends_is s h;
+          behind_blank = h;
         }
 
     word : IsTrue (is_text (35 ∷ rest)) → (o : Option (List ℕ)) → past_word (codes "pragma") (past_blanks rest) ≡ o → IsTrue (is_once o) → IsPragma (35 ∷ rest)
@@ -237,5 +217,5 @@ once line i = both (is_text line) (is_once (past_word (codes "pragma") (past_bla
         ap (past_word (codes "once")) (past_append cs (codes "once" ++ i.behind) (and_right (is_blank c) (list_all is_blank cs) b)) ∙ word_append (codes "once") i.behind in
         let k : IsTrue (is_blank c && is_once_behind (past_word (codes "once") (past_blanks (cs ++ (codes "once" ++ i.behind))))) =
         both (is_blank c) (is_once_behind (past_word (codes "once") (past_blanks (cs ++ (codes "once" ++ i.behind))))) (and_left (is_blank c) (list_all is_blank cs) b)
-        (subst (λ o. IsTrue (is_once_behind o)) (sym h) (is_ends i.behind i.ends)) in
+        (subst (λ o. IsTrue (is_once_behind o)) (sym h) i.behind_blank) in
         subst (λ o. IsTrue (is_once o)) (sym g) k

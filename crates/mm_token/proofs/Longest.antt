@@ -8,10 +8,10 @@ use Rattle.mm_token.specs.declared.piece.Sort.TheVariants as sort_is
 use Rattle.mm_token.specs.declared.piece.Shape.{Shape}
 use Rattle.mm_token.specs.declared.piece.Shape.TheVariants as shape
 use Rattle.mm_token.specs.Characters.{sort_of, is_blank, is_punctuation, is_digit, continues, is_pair, begins_pair}
-use Rattle.mm_token.specs.Pieces.{is_open, is_closed, ends_not, IsPiece, IsMark, IsLongest, HasNone, Begins}
-use Rattle.mm_token.specs.Runs.{IsRunOf, BeginsComment, IsHead, MayBeMark, BeginsWith}
+use Rattle.mm_token.specs.Pieces.{is_open, is_closed, ends_not, goes_on_line, quoted_after, is_on_line, IsPiece, IsMark, IsLongest, HasNone, Begins}
+use Rattle.mm_token.specs.Runs.{behind_line, IsRunOf, BeginsComment, IsHead, MayBeMark, BeginsWith}
 use lib.Utf8.{scalar as is_character}
-use Rattle.mm_token.proofs.Lemmas.{and_left, and_right, all_of_take}
+use Rattle.mm_token.proofs.Lemmas.{both, and_left, and_right, all_of_take}
 
 abbrev Fits : Shape → Sort → Type 0
 Fits shape.Blank s = s ≡ sort_is.Blank
@@ -26,21 +26,52 @@ Fits shape.Mark s = (s ≡ sort_is.Slash) ⊎ (s ≡ sort_is.Punctuation)
 slash_sort : (c : ℕ) → c ≡ 47 → sort_of c ≡ sort_is.Slash
 slash_sort c e = rw e refl
 
+-- a line that is cut where its directive ends
+pub record LineCut (quoted : Bool) (r rest : List ℕ) : Type 0 where
+  pub piece : List ℕ
+  pub cut : r ≡ piece ++ rest
+  pub on_line : IsTrue (is_on_line quoted piece rest)
+  pub longest : (d : ℕ) (more tail : List ℕ) → rest ≡ (d ∷ more) ++ tail → IsTrue (is_on_line quoted (piece ++ d ∷ more) tail) → ⊥
+
+line_cut : (quoted : Bool) (r : List ℕ) → LineCut quoted r (behind_line quoted r)
+line_cut quoted [] = record { piece = []; cut = refl; on_line = refl; longest = λ d more tail e h. absurd (cc) }
+line_cut quoted (c ∷ r) = by (goes_on_line quoted (c ∷ r)) refl (line_cut (quoted_after quoted c) r)
+  where
+    by : (b : Bool) → goes_on_line quoted (c ∷ r) ≡ b → LineCut (quoted_after quoted c) r (behind_line (quoted_after quoted c) r) →
+        LineCut quoted (c ∷ r) (if b then behind_line (quoted_after quoted c) r else c ∷ r)
+    by true e k = record {
+      piece = c ∷ k.piece;
+      cut = ap (λ x. c ∷ x) k.cut;
+      on_line = both (goes_on_line quoted (c ∷ (k.piece ++ behind_line (quoted_after quoted c) r))) (is_on_line (quoted_after quoted c) k.piece (behind_line (quoted_after quoted c) r))
+          (subst (λ x. goes_on_line quoted (c ∷ x) ≡ true) k.cut e) k.on_line;
+      longest = λ d more tail i h. k.longest d more tail i
+          (and_right (goes_on_line quoted (c ∷ ((k.piece ++ d ∷ more) ++ tail))) (is_on_line (quoted_after quoted c) (k.piece ++ d ∷ more) tail) h);
+    }
+    by false e k = record {
+      piece = [];
+      cut = refl;
+      on_line = refl;
+      longest = λ d more tail i h.
+          let g : goes_on_line quoted (c ∷ r) ≡ true = subst (λ x. goes_on_line quoted x ≡ true) (sym i)
+          (and_left (goes_on_line quoted (d ∷ (more ++ tail))) (is_on_line (quoted_after quoted d) more tail) h) in
+          absurd (cc);
+    }
+
 module _ (fr : Bool) where
-  kind_sort : (kind : Shape) (c : ℕ) (r : List ℕ) → IsPiece fr kind (c ∷ r) → Fits kind (sort_of c)
-  kind_sort shape.Blank c r h = h.0
-  kind_sort shape.Line c [] h = absurd h
-  kind_sort shape.Line c (d ∷ r) h = slash_sort c h.0
-  kind_sort shape.Block c [] h = absurd h
-  kind_sort shape.Block c (d ∷ r) h = slash_sort c h.0
-  kind_sort shape.Open c [] h = absurd h
-  kind_sort shape.Open c (d ∷ r) h = slash_sort c h.0
-  kind_sort shape.Word c r h = h.0
-  kind_sort shape.Number c r h = h.0
-  kind_sort shape.Directive c r h = h.1
-  kind_sort shape.Mark c [] h = elim h [ inl a ↦ inl a | inr b ↦ inr b.0 ]
-  kind_sort shape.Mark c (d ∷ []) h = h.0
-  kind_sort shape.Mark c (d ∷ e ∷ r) h = absurd h
+  kind_sort : (kind : Shape) (c : ℕ) (r rest : List ℕ) → IsPiece fr kind (c ∷ r) rest → Fits kind (sort_of c)
+  kind_sort shape.Blank c r rest h = h.0
+  kind_sort shape.Line c [] rest h = absurd h
+  kind_sort shape.Line c (d ∷ r) rest h = slash_sort c h.0
+  kind_sort shape.Block c [] rest h = absurd h
+  kind_sort shape.Block c (d ∷ r) rest h = slash_sort c h.0
+  kind_sort shape.Open c [] rest h = absurd h
+  kind_sort shape.Open c (d ∷ r) rest h = slash_sort c h.0
+  kind_sort shape.Word c r rest h = h.0
+  kind_sort shape.Number c r rest h = h.0
+  kind_sort shape.Directive c r rest h = h.1
+  kind_sort shape.Mark c [] rest h = elim h [ inl a ↦ inl a | inr b ↦ inr b.0 ]
+  kind_sort shape.Mark c (d ∷ []) rest h = h.0
+  kind_sort shape.Mark c (d ∷ e ∷ r) rest h = absurd h
 
   -- ---- runs
 
@@ -68,15 +99,15 @@ module _ (fr : Bool) where
     is_piece = (s, all_of_take continues r n run.within run.passes);
     longest = λ other d more tail e h. other_word other d more tail e h;
   } where
-    other_word : (other : Shape) (d : ℕ) (more tail : List ℕ) → drop n r ≡ (d ∷ more) ++ tail → IsPiece fr other (c ∷ (take n r ++ d ∷ more)) → ⊥
-    other_word shape.Blank d more tail e h = let f = kind_sort shape.Blank c (take n r ++ d ∷ more) h in absurd (cc)
-    other_word shape.Line d more tail e h = let f = kind_sort shape.Line c (take n r ++ d ∷ more) h in absurd (cc)
-    other_word shape.Block d more tail e h = let f = kind_sort shape.Block c (take n r ++ d ∷ more) h in absurd (cc)
-    other_word shape.Open d more tail e h = let f = kind_sort shape.Open c (take n r ++ d ∷ more) h in absurd (cc)
+    other_word : (other : Shape) (d : ℕ) (more tail : List ℕ) → drop n r ≡ (d ∷ more) ++ tail → IsPiece fr other (c ∷ (take n r ++ d ∷ more)) tail → ⊥
+    other_word shape.Blank d more tail e h = let f = kind_sort shape.Blank c (take n r ++ d ∷ more) tail h in absurd (cc)
+    other_word shape.Line d more tail e h = let f = kind_sort shape.Line c (take n r ++ d ∷ more) tail h in absurd (cc)
+    other_word shape.Block d more tail e h = let f = kind_sort shape.Block c (take n r ++ d ∷ more) tail h in absurd (cc)
+    other_word shape.Open d more tail e h = let f = kind_sort shape.Open c (take n r ++ d ∷ more) tail h in absurd (cc)
     other_word shape.Word d more tail e h = no_more continues r n d more tail run e h.1
-    other_word shape.Number d more tail e h = let f = kind_sort shape.Number c (take n r ++ d ∷ more) h in absurd (cc)
-    other_word shape.Directive d more tail e h = let f = kind_sort shape.Directive c (take n r ++ d ∷ more) h in absurd (cc)
-    other_word shape.Mark d more tail e h = elim (kind_sort shape.Mark c (take n r ++ d ∷ more) h) [ inl f ↦ absurd (cc) | inr f ↦ absurd (cc) ]
+    other_word shape.Number d more tail e h = let f = kind_sort shape.Number c (take n r ++ d ∷ more) tail h in absurd (cc)
+    other_word shape.Directive d more tail e h = let f = kind_sort shape.Directive c (take n r ++ d ∷ more) tail h in absurd (cc)
+    other_word shape.Mark d more tail e h = elim (kind_sort shape.Mark c (take n r ++ d ∷ more) tail h) [ inl f ↦ absurd (cc) | inr f ↦ absurd (cc) ]
 
   pub number : (c : ℕ) (r : List ℕ) (n : ℕ) → sort_of c ≡ sort_is.Digit → IsRunOf continues r n → IsLongest fr (c ∷ r) shape.Number (c ∷ take n r) (drop n r)
   number c r n s run = record {
@@ -84,47 +115,47 @@ module _ (fr : Bool) where
     is_piece = (s, all_of_take continues r n run.within run.passes);
     longest = λ other d more tail e h. others other d more tail e h;
   } where
-    others : (other : Shape) (d : ℕ) (more tail : List ℕ) → drop n r ≡ (d ∷ more) ++ tail → IsPiece fr other (c ∷ (take n r ++ d ∷ more)) → ⊥
-    others shape.Blank d more tail e h = let f = kind_sort shape.Blank c (take n r ++ d ∷ more) h in absurd (cc)
-    others shape.Line d more tail e h = let f = kind_sort shape.Line c (take n r ++ d ∷ more) h in absurd (cc)
-    others shape.Block d more tail e h = let f = kind_sort shape.Block c (take n r ++ d ∷ more) h in absurd (cc)
-    others shape.Open d more tail e h = let f = kind_sort shape.Open c (take n r ++ d ∷ more) h in absurd (cc)
-    others shape.Word d more tail e h = let f = kind_sort shape.Word c (take n r ++ d ∷ more) h in absurd (cc)
+    others : (other : Shape) (d : ℕ) (more tail : List ℕ) → drop n r ≡ (d ∷ more) ++ tail → IsPiece fr other (c ∷ (take n r ++ d ∷ more)) tail → ⊥
+    others shape.Blank d more tail e h = let f = kind_sort shape.Blank c (take n r ++ d ∷ more) tail h in absurd (cc)
+    others shape.Line d more tail e h = let f = kind_sort shape.Line c (take n r ++ d ∷ more) tail h in absurd (cc)
+    others shape.Block d more tail e h = let f = kind_sort shape.Block c (take n r ++ d ∷ more) tail h in absurd (cc)
+    others shape.Open d more tail e h = let f = kind_sort shape.Open c (take n r ++ d ∷ more) tail h in absurd (cc)
+    others shape.Word d more tail e h = let f = kind_sort shape.Word c (take n r ++ d ∷ more) tail h in absurd (cc)
     others shape.Number d more tail e h = no_more continues r n d more tail run e h.1
-    others shape.Directive d more tail e h = let f = kind_sort shape.Directive c (take n r ++ d ∷ more) h in absurd (cc)
-    others shape.Mark d more tail e h = elim (kind_sort shape.Mark c (take n r ++ d ∷ more) h) [ inl f ↦ absurd (cc) | inr f ↦ absurd (cc) ]
+    others shape.Directive d more tail e h = let f = kind_sort shape.Directive c (take n r ++ d ∷ more) tail h in absurd (cc)
+    others shape.Mark d more tail e h = elim (kind_sort shape.Mark c (take n r ++ d ∷ more) tail h) [ inl f ↦ absurd (cc) | inr f ↦ absurd (cc) ]
 
   pub blank : (c : ℕ) (r : List ℕ) → sort_of c ≡ sort_is.Blank → IsLongest fr (c ∷ r) shape.Blank (c ∷ []) r
   blank c r s = record {
     cut = refl;
     is_piece = (s, refl);
-    longest = λ other d more tail e h. others other d more h;
+    longest = λ other d more tail e h. others other d more tail h;
   } where
-    others : (other : Shape) (d : ℕ) (more : List ℕ) → IsPiece fr other (c ∷ d ∷ more) → ⊥
-    others shape.Blank d more h = absurd (cc)
-    others shape.Line d more h = let f = kind_sort shape.Line c (d ∷ more) h in absurd (cc)
-    others shape.Block d more h = let f = kind_sort shape.Block c (d ∷ more) h in absurd (cc)
-    others shape.Open d more h = let f = kind_sort shape.Open c (d ∷ more) h in absurd (cc)
-    others shape.Word d more h = let f = kind_sort shape.Word c (d ∷ more) h in absurd (cc)
-    others shape.Number d more h = let f = kind_sort shape.Number c (d ∷ more) h in absurd (cc)
-    others shape.Directive d more h = let f = kind_sort shape.Directive c (d ∷ more) h in absurd (cc)
-    others shape.Mark d more h = elim (kind_sort shape.Mark c (d ∷ more) h) [ inl f ↦ absurd (cc) | inr f ↦ absurd (cc) ]
+    others : (other : Shape) (d : ℕ) (more tail : List ℕ) → IsPiece fr other (c ∷ d ∷ more) tail → ⊥
+    others shape.Blank d more tail h = absurd (cc)
+    others shape.Line d more tail h = let f = kind_sort shape.Line c (d ∷ more) tail h in absurd (cc)
+    others shape.Block d more tail h = let f = kind_sort shape.Block c (d ∷ more) tail h in absurd (cc)
+    others shape.Open d more tail h = let f = kind_sort shape.Open c (d ∷ more) tail h in absurd (cc)
+    others shape.Word d more tail h = let f = kind_sort shape.Word c (d ∷ more) tail h in absurd (cc)
+    others shape.Number d more tail h = let f = kind_sort shape.Number c (d ∷ more) tail h in absurd (cc)
+    others shape.Directive d more tail h = let f = kind_sort shape.Directive c (d ∷ more) tail h in absurd (cc)
+    others shape.Mark d more tail h = elim (kind_sort shape.Mark c (d ∷ more) tail h) [ inl f ↦ absurd (cc) | inr f ↦ absurd (cc) ]
 
-  pub directive : (c : ℕ) (r : List ℕ) (n : ℕ) → sort_of c ≡ sort_is.Hash → fr ≡ true → IsRunOf (λ c. not (c == 10)) r n → IsLongest fr (c ∷ r) shape.Directive (c ∷ take n r) (drop n r)
-  directive c r n s f run = record {
-    cut = ap (λ t. c ∷ t) (sym (take-append-drop n r));
-    is_piece = (f, s, all_of_take (λ c. not (c == 10)) r n run.within run.passes);
+  pub directive : (c : ℕ) (r rest : List ℕ) → sort_of c ≡ sort_is.Hash → fr ≡ true → (l : LineCut false r rest) → IsLongest fr (c ∷ r) shape.Directive (c ∷ l.piece) rest
+  directive c r rest s f l = record {
+    cut = ap (λ t. c ∷ t) l.cut;
+    is_piece = (f, s, l.on_line);
     longest = λ other d more tail e h. others other d more tail e h;
   } where
-    others : (other : Shape) (d : ℕ) (more tail : List ℕ) → drop n r ≡ (d ∷ more) ++ tail → IsPiece fr other (c ∷ (take n r ++ d ∷ more)) → ⊥
-    others shape.Blank d more tail e h = let f = kind_sort shape.Blank c (take n r ++ d ∷ more) h in absurd (cc)
-    others shape.Line d more tail e h = let f = kind_sort shape.Line c (take n r ++ d ∷ more) h in absurd (cc)
-    others shape.Block d more tail e h = let f = kind_sort shape.Block c (take n r ++ d ∷ more) h in absurd (cc)
-    others shape.Open d more tail e h = let f = kind_sort shape.Open c (take n r ++ d ∷ more) h in absurd (cc)
-    others shape.Word d more tail e h = let f = kind_sort shape.Word c (take n r ++ d ∷ more) h in absurd (cc)
-    others shape.Number d more tail e h = let f = kind_sort shape.Number c (take n r ++ d ∷ more) h in absurd (cc)
-    others shape.Directive d more tail e h = no_more (λ c. not (c == 10)) r n d more tail run e h.2
-    others shape.Mark d more tail e h = elim (kind_sort shape.Mark c (take n r ++ d ∷ more) h) [ inl f ↦ absurd (cc) | inr f ↦ absurd (cc) ]
+    others : (other : Shape) (d : ℕ) (more tail : List ℕ) → rest ≡ (d ∷ more) ++ tail → IsPiece fr other (c ∷ (l.piece ++ d ∷ more)) tail → ⊥
+    others shape.Blank d more tail e h = let f = kind_sort shape.Blank c (l.piece ++ d ∷ more) tail h in absurd (cc)
+    others shape.Line d more tail e h = let f = kind_sort shape.Line c (l.piece ++ d ∷ more) tail h in absurd (cc)
+    others shape.Block d more tail e h = let f = kind_sort shape.Block c (l.piece ++ d ∷ more) tail h in absurd (cc)
+    others shape.Open d more tail e h = let f = kind_sort shape.Open c (l.piece ++ d ∷ more) tail h in absurd (cc)
+    others shape.Word d more tail e h = let f = kind_sort shape.Word c (l.piece ++ d ∷ more) tail h in absurd (cc)
+    others shape.Number d more tail e h = let f = kind_sort shape.Number c (l.piece ++ d ∷ more) tail h in absurd (cc)
+    others shape.Directive d more tail e h = l.longest d more tail e h.2
+    others shape.Mark d more tail e h = elim (kind_sort shape.Mark c (l.piece ++ d ∷ more) tail h) [ inl f ↦ absurd (cc) | inr f ↦ absurd (cc) ]
 
   -- ---- comments
 
@@ -150,22 +181,22 @@ module _ (fr : Bool) where
   pub is_slash : (c : ℕ) → sort_of c ≡ sort_is.Slash → c ≡ 47
   is_slash c h = let e : (c == 47) ≡ true = sort_slash (is_character c) (is_blank c) (c == 47) _ (last_sorts (is_punctuation c) (is_digit c) (c == 35) (c == 95 || is_xid_start c)) h in grind (arith, e)
 
-  slash_kinds : (P : Type 0) (other : Shape) (d : ℕ) (r : List ℕ) → IsPiece fr other (47 ∷ d ∷ r) →
+  slash_kinds : (P : Type 0) (other : Shape) (d : ℕ) (r tail : List ℕ) → IsPiece fr other (47 ∷ d ∷ r) tail →
       (d ≡ 47 → IsTrue (list_all (λ e. not (e == 10)) r) → P) → (d ≡ 42 → IsTrue (is_closed r) → P) → (d ≡ 42 → IsTrue (is_open r) → P) → (IsMark (47 ∷ d ∷ r) → P) → P
-  slash_kinds P shape.Blank d r h l b o m = let f = kind_sort shape.Blank 47 (d ∷ r) h in absurd (cc)
-  slash_kinds P shape.Line d r h l b o m = l h.1 h.2
-  slash_kinds P shape.Block d r h l b o m = b h.1 h.2
-  slash_kinds P shape.Open d r h l b o m = o h.1 h.2
-  slash_kinds P shape.Word d r h l b o m = let f = kind_sort shape.Word 47 (d ∷ r) h in absurd (cc)
-  slash_kinds P shape.Number d r h l b o m = let f = kind_sort shape.Number 47 (d ∷ r) h in absurd (cc)
-  slash_kinds P shape.Directive d r h l b o m = let f = kind_sort shape.Directive 47 (d ∷ r) h in absurd (cc)
-  slash_kinds P shape.Mark d r h l b o m = m h
+  slash_kinds P shape.Blank d r tail h l b o m = let f = kind_sort shape.Blank 47 (d ∷ r) tail h in absurd (cc)
+  slash_kinds P shape.Line d r tail h l b o m = l h.1 h.2
+  slash_kinds P shape.Block d r tail h l b o m = b h.1 h.2
+  slash_kinds P shape.Open d r tail h l b o m = o h.1 h.2
+  slash_kinds P shape.Word d r tail h l b o m = let f = kind_sort shape.Word 47 (d ∷ r) tail h in absurd (cc)
+  slash_kinds P shape.Number d r tail h l b o m = let f = kind_sort shape.Number 47 (d ∷ r) tail h in absurd (cc)
+  slash_kinds P shape.Directive d r tail h l b o m = let f = kind_sort shape.Directive 47 (d ∷ r) tail h in absurd (cc)
+  slash_kinds P shape.Mark d r tail h l b o m = m h
 
   pub line : (r : List ℕ) (n : ℕ) → IsRunOf (λ c. not (c == 10)) r n → IsLongest fr (47 ∷ 47 ∷ r) shape.Line (47 ∷ 47 ∷ take n r) (drop n r)
   line r n run = record {
     cut = ap (λ t. 47 ∷ 47 ∷ t) (sym (take-append-drop n r));
     is_piece = (refl, refl, all_of_take (λ c. not (c == 10)) r n run.within run.passes);
-    longest = λ other d more tail e h. slash_kinds ⊥ other 47 (take n r ++ d ∷ more) h
+    longest = λ other d more tail e h. slash_kinds ⊥ other 47 (take n r ++ d ∷ more) tail h
         (λ a all. no_more (λ c. not (c == 10)) r n d more tail run e all) (λ a b. absurd (cc)) (λ a b. absurd (cc)) (λ m. no_mark 47 47 (take n r) d more m);
   }
 
@@ -185,7 +216,7 @@ module _ (fr : Bool) where
   block r n closed = record {
     cut = ap (λ t. 47 ∷ 42 ∷ t) (sym (take-append-drop n r));
     is_piece = (refl, refl, closed);
-    longest = λ other d more tail e h. slash_kinds ⊥ other 42 (take n r ++ d ∷ more) h
+    longest = λ other d more tail e h. slash_kinds ⊥ other 42 (take n r ++ d ∷ more) tail h
         (λ a b. absurd (cc)) (λ a b. closed_once (take n r) d more closed b) (λ a b. closed_not_open (take n r) d more closed b) (λ m. no_mark 47 42 (take n r) d more m);
   }
 
@@ -198,21 +229,21 @@ module _ (fr : Bool) where
 
   -- ---- marks
 
-  only_mark : (P : Type 0) (other : Shape) (c d : ℕ) (r m : List ℕ) → IsHead c → ¬ (BeginsComment (c ∷ d ∷ r)) → IsPiece fr other (c ∷ d ∷ m) → (IsMark (c ∷ d ∷ m) → P) → P
-  only_mark P shape.Blank c d r m s n h f = let g = kind_sort shape.Blank c (d ∷ m) h in elim s [ inl a ↦ absurd (cc) | inr a ↦ absurd (cc) ]
-  only_mark P shape.Line c d r m s n h f = absurd (n (h.0, inl h.1))
-  only_mark P shape.Block c d r m s n h f = absurd (n (h.0, inr h.1))
-  only_mark P shape.Open c d r m s n h f = absurd (n (h.0, inr h.1))
-  only_mark P shape.Word c d r m s n h f = let g = kind_sort shape.Word c (d ∷ m) h in elim s [ inl a ↦ absurd (cc) | inr a ↦ absurd (cc) ]
-  only_mark P shape.Number c d r m s n h f = let g = kind_sort shape.Number c (d ∷ m) h in elim s [ inl a ↦ absurd (cc) | inr a ↦ absurd (cc) ]
-  only_mark P shape.Directive c d r m s n h f = let g = kind_sort shape.Directive c (d ∷ m) h in elim s [ inl a ↦ absurd (cc) | inr a ↦ absurd (cc) ]
-  only_mark P shape.Mark c d r m s n h f = f h
+  only_mark : (P : Type 0) (other : Shape) (c d : ℕ) (r m tail : List ℕ) → IsHead c → ¬ (BeginsComment (c ∷ d ∷ r)) → IsPiece fr other (c ∷ d ∷ m) tail → (IsMark (c ∷ d ∷ m) → P) → P
+  only_mark P shape.Blank c d r m tail s n h f = let g = kind_sort shape.Blank c (d ∷ m) tail h in elim s [ inl a ↦ absurd (cc) | inr a ↦ absurd (cc) ]
+  only_mark P shape.Line c d r m tail s n h f = absurd (n (h.0, inl h.1))
+  only_mark P shape.Block c d r m tail s n h f = absurd (n (h.0, inr h.1))
+  only_mark P shape.Open c d r m tail s n h f = absurd (n (h.0, inr h.1))
+  only_mark P shape.Word c d r m tail s n h f = let g = kind_sort shape.Word c (d ∷ m) tail h in elim s [ inl a ↦ absurd (cc) | inr a ↦ absurd (cc) ]
+  only_mark P shape.Number c d r m tail s n h f = let g = kind_sort shape.Number c (d ∷ m) tail h in elim s [ inl a ↦ absurd (cc) | inr a ↦ absurd (cc) ]
+  only_mark P shape.Directive c d r m tail s n h f = let g = kind_sort shape.Directive c (d ∷ m) tail h in elim s [ inl a ↦ absurd (cc) | inr a ↦ absurd (cc) ]
+  only_mark P shape.Mark c d r m tail s n h f = f h
 
   pub pair : (c d : ℕ) (r : List ℕ) → IsHead c → ¬ (BeginsComment (c ∷ d ∷ r)) → IsTrue (is_pair c d) → IsLongest fr (c ∷ d ∷ r) shape.Mark (c ∷ d ∷ []) r
   pair c d r s n p = record {
     cut = refl;
     is_piece = (s, p);
-    longest = λ other e more tail i h. only_mark ⊥ other c d r (e ∷ more) s n h (λ m. m);
+    longest = λ other e more tail i h. only_mark ⊥ other c d r (e ∷ more) tail s n h (λ m. m);
   }
 
   abbrev pub NoPair : ℕ → List ℕ → Type 0
@@ -225,58 +256,58 @@ module _ (fr : Bool) where
     is_piece = elim s [ inl a ↦ inl a | inr a ↦ inr (a, b) ];
     longest = λ other d more tail e h. longer r n p other d more tail e h;
   } where
-    longer : (r : List ℕ) → ¬ (BeginsComment (c ∷ r)) → NoPair c r → (other : Shape) (d : ℕ) (more tail : List ℕ) → r ≡ (d ∷ more) ++ tail → IsPiece fr other (c ∷ d ∷ more) → ⊥
+    longer : (r : List ℕ) → ¬ (BeginsComment (c ∷ r)) → NoPair c r → (other : Shape) (d : ℕ) (more tail : List ℕ) → r ≡ (d ∷ more) ++ tail → IsPiece fr other (c ∷ d ∷ more) tail → ⊥
     longer [] n p other d more tail e h = absurd (cc)
     longer (x ∷ r) n p other d more tail e h =
         let same : x ≡ d = cc in
-        only_mark ⊥ other c d r more s (subst (λ y. ¬ (BeginsComment (c ∷ y ∷ r))) same n) h (λ m. pairs more m (subst (λ y. IsTrue (is_pair c y) → ⊥) same p))
+        only_mark ⊥ other c d r more tail s (subst (λ y. ¬ (BeginsComment (c ∷ y ∷ r))) same n) h (λ m. pairs more m (subst (λ y. IsTrue (is_pair c y) → ⊥) same p))
       where
         pairs : (more : List ℕ) → IsMark (c ∷ d ∷ more) → (IsTrue (is_pair c d) → ⊥) → ⊥
         pairs [] m p = p m.1
         pairs (y ∷ more) m p = m
 
-  pub no_empty : (kind : Shape) → IsPiece fr kind [] → ⊥
-  no_empty shape.Blank h = h
-  no_empty shape.Line h = h
-  no_empty shape.Block h = h
-  no_empty shape.Open h = h
-  no_empty shape.Word h = h
-  no_empty shape.Number h = h
-  no_empty shape.Directive h = h
-  no_empty shape.Mark h = h
+  pub no_empty : (kind : Shape) (tail : List ℕ) → IsPiece fr kind [] tail → ⊥
+  no_empty shape.Blank tail h = h
+  no_empty shape.Line tail h = h
+  no_empty shape.Block tail h = h
+  no_empty shape.Open tail h = h
+  no_empty shape.Word tail h = h
+  no_empty shape.Number tail h = h
+  no_empty shape.Directive tail h = h
+  no_empty shape.Mark tail h = h
 
-  none_by : (c : ℕ) (r : List ℕ) → ((kind : Shape) (more tail : List ℕ) → r ≡ more ++ tail → IsPiece fr kind (c ∷ more) → ⊥) → HasNone fr (c ∷ r)
-  none_by c r f kind [] tail e h = no_empty kind h
+  none_by : (c : ℕ) (r : List ℕ) → ((kind : Shape) (more tail : List ℕ) → r ≡ more ++ tail → IsPiece fr kind (c ∷ more) tail → ⊥) → HasNone fr (c ∷ r)
+  none_by c r f kind [] tail e h = no_empty kind tail h
   none_by c r f kind (x ∷ piece) tail e h =
       let same : c ≡ x = cc in
       let rest : r ≡ piece ++ tail = cc in
-      f kind piece tail rest (subst (λ y. IsPiece fr kind (y ∷ piece)) (sym same) h)
+      f kind piece tail rest (subst (λ y. IsPiece fr kind (y ∷ piece) tail) (sym same) h)
 
   pub other : (c : ℕ) (r : List ℕ) → sort_of c ≡ sort_is.Other → HasNone fr (c ∷ r)
   other c r s = none_by c r by
     where
-      by : (kind : Shape) (more tail : List ℕ) → r ≡ more ++ tail → IsPiece fr kind (c ∷ more) → ⊥
-      by shape.Blank more tail e h = let f = kind_sort shape.Blank c more h in absurd (cc)
-      by shape.Line more tail e h = let f = kind_sort shape.Line c more h in absurd (cc)
-      by shape.Block more tail e h = let f = kind_sort shape.Block c more h in absurd (cc)
-      by shape.Open more tail e h = let f = kind_sort shape.Open c more h in absurd (cc)
-      by shape.Word more tail e h = let f = kind_sort shape.Word c more h in absurd (cc)
-      by shape.Number more tail e h = let f = kind_sort shape.Number c more h in absurd (cc)
-      by shape.Directive more tail e h = let f = kind_sort shape.Directive c more h in absurd (cc)
-      by shape.Mark more tail e h = elim (kind_sort shape.Mark c more h) [ inl f ↦ absurd (cc) | inr f ↦ absurd (cc) ]
+      by : (kind : Shape) (more tail : List ℕ) → r ≡ more ++ tail → IsPiece fr kind (c ∷ more) tail → ⊥
+      by shape.Blank more tail e h = let f = kind_sort shape.Blank c more tail h in absurd (cc)
+      by shape.Line more tail e h = let f = kind_sort shape.Line c more tail h in absurd (cc)
+      by shape.Block more tail e h = let f = kind_sort shape.Block c more tail h in absurd (cc)
+      by shape.Open more tail e h = let f = kind_sort shape.Open c more tail h in absurd (cc)
+      by shape.Word more tail e h = let f = kind_sort shape.Word c more tail h in absurd (cc)
+      by shape.Number more tail e h = let f = kind_sort shape.Number c more tail h in absurd (cc)
+      by shape.Directive more tail e h = let f = kind_sort shape.Directive c more tail h in absurd (cc)
+      by shape.Mark more tail e h = elim (kind_sort shape.Mark c more tail h) [ inl f ↦ absurd (cc) | inr f ↦ absurd (cc) ]
 
   pub stray : (c : ℕ) (r : List ℕ) → sort_of c ≡ sort_is.Hash → fr ≡ false → HasNone fr (c ∷ r)
   stray c r s f = none_by c r by
     where
-      by : (kind : Shape) (more tail : List ℕ) → r ≡ more ++ tail → IsPiece fr kind (c ∷ more) → ⊥
-      by shape.Blank more tail e h = let f = kind_sort shape.Blank c more h in absurd (cc)
-      by shape.Line more tail e h = let f = kind_sort shape.Line c more h in absurd (cc)
-      by shape.Block more tail e h = let f = kind_sort shape.Block c more h in absurd (cc)
-      by shape.Open more tail e h = let f = kind_sort shape.Open c more h in absurd (cc)
-      by shape.Word more tail e h = let f = kind_sort shape.Word c more h in absurd (cc)
-      by shape.Number more tail e h = let f = kind_sort shape.Number c more h in absurd (cc)
+      by : (kind : Shape) (more tail : List ℕ) → r ≡ more ++ tail → IsPiece fr kind (c ∷ more) tail → ⊥
+      by shape.Blank more tail e h = let f = kind_sort shape.Blank c more tail h in absurd (cc)
+      by shape.Line more tail e h = let f = kind_sort shape.Line c more tail h in absurd (cc)
+      by shape.Block more tail e h = let f = kind_sort shape.Block c more tail h in absurd (cc)
+      by shape.Open more tail e h = let f = kind_sort shape.Open c more tail h in absurd (cc)
+      by shape.Word more tail e h = let f = kind_sort shape.Word c more tail h in absurd (cc)
+      by shape.Number more tail e h = let f = kind_sort shape.Number c more tail h in absurd (cc)
       by shape.Directive more tail e h = let i = h.0 in absurd (cc)
-      by shape.Mark more tail e h = elim (kind_sort shape.Mark c more h) [ inl f ↦ absurd (cc) | inr f ↦ absurd (cc) ]
+      by shape.Mark more tail e h = elim (kind_sort shape.Mark c more tail h) [ inl f ↦ absurd (cc) | inr f ↦ absurd (cc) ]
 
   bar_sort : (c : ℕ) → c ≡ 124 → sort_of c ≡ sort_is.Punctuation
   bar_sort c e = rw e refl
@@ -284,14 +315,14 @@ module _ (fr : Bool) where
   only_marks : (c : ℕ) (r : List ℕ) → sort_of c ≡ sort_is.Punctuation → ((more tail : List ℕ) → r ≡ more ++ tail → IsMark (c ∷ more) → ⊥) → HasNone fr (c ∷ r)
   only_marks c r s marks = none_by c r by
     where
-      by : (kind : Shape) (more tail : List ℕ) → r ≡ more ++ tail → IsPiece fr kind (c ∷ more) → ⊥
-      by shape.Blank more tail e h = let f = kind_sort shape.Blank c more h in absurd (cc)
-      by shape.Line more tail e h = let f = kind_sort shape.Line c more h in absurd (cc)
-      by shape.Block more tail e h = let f = kind_sort shape.Block c more h in absurd (cc)
-      by shape.Open more tail e h = let f = kind_sort shape.Open c more h in absurd (cc)
-      by shape.Word more tail e h = let f = kind_sort shape.Word c more h in absurd (cc)
-      by shape.Number more tail e h = let f = kind_sort shape.Number c more h in absurd (cc)
-      by shape.Directive more tail e h = let f = kind_sort shape.Directive c more h in absurd (cc)
+      by : (kind : Shape) (more tail : List ℕ) → r ≡ more ++ tail → IsPiece fr kind (c ∷ more) tail → ⊥
+      by shape.Blank more tail e h = let f = kind_sort shape.Blank c more tail h in absurd (cc)
+      by shape.Line more tail e h = let f = kind_sort shape.Line c more tail h in absurd (cc)
+      by shape.Block more tail e h = let f = kind_sort shape.Block c more tail h in absurd (cc)
+      by shape.Open more tail e h = let f = kind_sort shape.Open c more tail h in absurd (cc)
+      by shape.Word more tail e h = let f = kind_sort shape.Word c more tail h in absurd (cc)
+      by shape.Number more tail e h = let f = kind_sort shape.Number c more tail h in absurd (cc)
+      by shape.Directive more tail e h = let f = kind_sort shape.Directive c more tail h in absurd (cc)
       by shape.Mark more tail e h = marks more tail e h
 
   no_bar : (c : ℕ) → sort_of c ≡ sort_is.Punctuation → c ≡ 124 → (r more tail : List ℕ) → NoPair c r → r ≡ more ++ tail → IsMark (c ∷ more) → ⊥
@@ -327,9 +358,11 @@ module _ (fr : Bool) where
   blank_at [] x l e s = absurd (omega arith)
   blank_at (c ∷ r) x l e s = (c ∷ [], omega arith, blank c r (subst (λ y. sort_of y ≡ sort_is.Blank) e s))
 
-  pub directive_at : (text : List ℕ) (x n : ℕ) → 0 < length text → x ≡ get_or text 0 0 → sort_of x ≡ sort_is.Hash → fr ≡ true → IsRunOf (λ c. not (c == 10)) (drop 1 text) n → Begins fr text shape.Directive (drop n (drop 1 text))
-  directive_at [] x n l e s f run = absurd (omega arith)
-  directive_at (c ∷ r) x n l e s f run = (c ∷ take n r, omega arith, directive c r n (subst (λ y. sort_of y ≡ sort_is.Hash) e s) f run)
+  pub directive_at : (text rest : List ℕ) (x : ℕ) → 0 < length text → x ≡ get_or text 0 0 → sort_of x ≡ sort_is.Hash → fr ≡ true → rest ≡ behind_line false (drop 1 text) → Begins fr text shape.Directive rest
+  directive_at [] rest x l e s f b = absurd (omega arith)
+  directive_at (c ∷ r) rest x l e s f b =
+      let k = subst (LineCut false r) (sym b) (line_cut false r) in
+      (c ∷ k.piece, omega arith, directive c r rest (subst (λ y. sort_of y ≡ sort_is.Hash) e s) f k)
 
   pub stray_at : (text : List ℕ) (x : ℕ) → 0 < length text → x ≡ get_or text 0 0 → sort_of x ≡ sort_is.Hash → fr ≡ false → HasNone fr text
   stray_at [] x l e s f = absurd (omega arith)
@@ -344,7 +377,7 @@ module _ (fr : Bool) where
   begins_at (c ∷ r) x s l e h = subst (λ y. sort_of y ≡ s) e h
 
   pub no_text : HasNone fr []
-  no_text kind [] tail e h = no_empty kind h
+  no_text kind [] tail e h = no_empty kind tail h
   no_text kind (x ∷ piece) tail e h = absurd (cc)
 
   pub punctuation_mark : (text : List ℕ) → BeginsWith text sort_is.Punctuation → MayBeMark text

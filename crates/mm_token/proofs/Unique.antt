@@ -55,29 +55,29 @@ second_of_pair c d s h =
     equals : (d : ℕ) → d ≡ 61 → slash_shape (d ∷ []) ≡ shape.Mark
     equals d i = rw i refl
 
-pub shape_is : (fresh : Bool) (kind : Shape) (cs : List ℕ) → IsPiece fresh kind cs → kind ≡ shape_of cs
+pub shape_is : (fresh : Bool) (kind : Shape) (cs rest : List ℕ) → IsPiece fresh kind cs rest → kind ≡ shape_of cs
 unfolding shape_of shape_by slash_shape
-shape_is fresh shape.Blank [] h = absurd h
-shape_is fresh shape.Blank (c ∷ r) h = sym (ap (λ s. shape_by s r) h.0)
-shape_is fresh shape.Line [] h = absurd h
-shape_is fresh shape.Line (c ∷ []) h = absurd h
-shape_is fresh shape.Line (c ∷ d ∷ r) h = rw (h.0, h.1) refl
-shape_is fresh shape.Block [] h = absurd h
-shape_is fresh shape.Block (c ∷ []) h = absurd h
-shape_is fresh shape.Block (c ∷ d ∷ r) h = rw (h.0, h.1, closed_not_open r h.2) refl
-shape_is fresh shape.Open [] h = absurd h
-shape_is fresh shape.Open (c ∷ []) h = absurd h
-shape_is fresh shape.Open (c ∷ d ∷ r) h = rw (h.0, h.1, h.2) refl
-shape_is fresh shape.Word [] h = absurd h
-shape_is fresh shape.Word (c ∷ r) h = sym (ap (λ s. shape_by s r) h.0)
-shape_is fresh shape.Number [] h = absurd h
-shape_is fresh shape.Number (c ∷ r) h = sym (ap (λ s. shape_by s r) h.0)
-shape_is fresh shape.Directive [] h = absurd h
-shape_is fresh shape.Directive (c ∷ r) h = sym (ap (λ s. shape_by s r) h.1)
-shape_is fresh shape.Mark [] h = refl
-shape_is fresh shape.Mark (c ∷ []) h = elim h [ inl e ↦ sym (ap (λ s. shape_by s []) e) | inr e ↦ sym (ap (λ s. shape_by s []) e.0) ]
-shape_is fresh shape.Mark (c ∷ d ∷ []) h = elim h.0 [ inl e ↦ sym (ap (λ s. shape_by s (d ∷ [])) e ∙ second_of_pair c d e h.1) | inr e ↦ sym (ap (λ s. shape_by s (d ∷ [])) e) ]
-shape_is fresh shape.Mark (c ∷ d ∷ e ∷ r) h = absurd h
+shape_is fresh shape.Blank [] rest h = absurd h
+shape_is fresh shape.Blank (c ∷ r) rest h = sym (ap (λ s. shape_by s r) h.0)
+shape_is fresh shape.Line [] rest h = absurd h
+shape_is fresh shape.Line (c ∷ []) rest h = absurd h
+shape_is fresh shape.Line (c ∷ d ∷ r) rest h = rw (h.0, h.1) refl
+shape_is fresh shape.Block [] rest h = absurd h
+shape_is fresh shape.Block (c ∷ []) rest h = absurd h
+shape_is fresh shape.Block (c ∷ d ∷ r) rest h = rw (h.0, h.1, closed_not_open r h.2) refl
+shape_is fresh shape.Open [] rest h = absurd h
+shape_is fresh shape.Open (c ∷ []) rest h = absurd h
+shape_is fresh shape.Open (c ∷ d ∷ r) rest h = rw (h.0, h.1, h.2) refl
+shape_is fresh shape.Word [] rest h = absurd h
+shape_is fresh shape.Word (c ∷ r) rest h = sym (ap (λ s. shape_by s r) h.0)
+shape_is fresh shape.Number [] rest h = absurd h
+shape_is fresh shape.Number (c ∷ r) rest h = sym (ap (λ s. shape_by s r) h.0)
+shape_is fresh shape.Directive [] rest h = absurd h
+shape_is fresh shape.Directive (c ∷ r) rest h = sym (ap (λ s. shape_by s r) h.1)
+shape_is fresh shape.Mark [] rest h = refl
+shape_is fresh shape.Mark (c ∷ []) rest h = elim h [ inl e ↦ sym (ap (λ s. shape_by s []) e) | inr e ↦ sym (ap (λ s. shape_by s []) e.0) ]
+shape_is fresh shape.Mark (c ∷ d ∷ []) rest h = elim h.0 [ inl e ↦ sym (ap (λ s. shape_by s (d ∷ [])) e ∙ second_of_pair c d e h.1) | inr e ↦ sym (ap (λ s. shape_by s (d ∷ [])) e) ]
+shape_is fresh shape.Mark (c ∷ d ∷ e ∷ r) rest h = absurd h
 
 -- ---- two fronts of a text
 
@@ -111,14 +111,14 @@ pub one_longest : (fresh : Bool) (text : List ℕ) (kind : Shape) (piece rest : 
 one_longest fresh text kind piece rest kind' piece' rest' l m = by (fronts piece rest piece' rest' (sym l.cut ∙ m.cut))
   where
     by : Fronts piece rest piece' rest' → SamePiece kind piece rest kind' piece' rest'
-    by (same e i) = record { kind_is = shape_is fresh kind piece l.is_piece ∙ (ap shape_of e ∙ sym (shape_is fresh kind' piece' m.is_piece)); piece_is = e; rest_is = i }
-    by (longer c more e i) = absurd (l.longest kind' c more rest' i (subst (IsPiece fresh kind') e m.is_piece))
-    by (shorter c more e i) = absurd (m.longest kind c more rest i (subst (IsPiece fresh kind) e l.is_piece))
+    by (same e i) = record { kind_is = shape_is fresh kind piece rest l.is_piece ∙ (ap shape_of e ∙ sym (shape_is fresh kind' piece' rest' m.is_piece)); piece_is = e; rest_is = i }
+    by (longer c more e i) = absurd (l.longest kind' c more rest' i (subst (λ x. IsPiece fresh kind' x rest') e m.is_piece))
+    by (shorter c more e i) = absurd (m.longest kind c more rest i (subst (λ x. IsPiece fresh kind x rest) e l.is_piece))
 
 -- a text that begins with a longest piece isn't one that begins with none, nor empty
 pub none_or_longest : (fresh : Bool) (text : List ℕ) (kind : Shape) (piece rest : List ℕ) → HasNone fresh text → IsLongest fresh text kind piece rest → ⊥
 none_or_longest fresh text kind piece rest n l = n kind piece rest l.cut l.is_piece
 
 pub empty_or_longest : (fresh : Bool) (kind : Shape) (piece rest : List ℕ) → IsLongest fresh [] kind piece rest → ⊥
-empty_or_longest fresh kind [] rest l = no_empty fresh kind l.is_piece
+empty_or_longest fresh kind [] rest l = no_empty fresh kind rest l.is_piece
 empty_or_longest fresh kind (x ∷ piece) rest l = let e = l.cut in absurd (cc)

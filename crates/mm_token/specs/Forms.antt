@@ -1,5 +1,5 @@
 -- The forms of the two directives, and of a text that is UTF-8, in other words than those that the definitions compute.
-use Rattle.std.specs.Prelude.{◌≡◌, ℕ, ◌<◌, not, ◌==◌, IsTrue, List, [], ◌∷◌, ◌++◌, length, codes, Some, ◌⊎◌}
+use Rattle.std.specs.Prelude.{◌≡◌, ℕ, ◌<◌, not, ◌==◌, IsTrue, List, ◌∷◌, ◌++◌, length, codes, Some}
 use Rattle.std.specs.List.{list_all}
 use Rattle.std.specs.Str.{IsUtf8, chars}
 use Rattle.mm_token.specs.Characters.{characters_of, is_text, is_blank}
@@ -8,15 +8,7 @@ use Rattle.mm_token.specs.Words.{included_name, is_pragma_once}
 abbrev pub AllBlank : List ℕ → Type 0
 AllBlank cs = IsTrue (list_all is_blank cs)
 
--- white space, and then nothing or a comment to the end of the line
-pub record EndsLine (cs : List ℕ) : Type 0 where
-  pub blank : List ℕ
-  pub rest : List ℕ
-  pub is_all : cs ≡ blank ++ rest
-  pub is_blank : AllBlank blank
-  pub is_end : (rest ≡ []) ⊎ ((comment : List ℕ) × (rest ≡ 47 ∷ 47 ∷ comment))
-
--- # include "name" and the end of the line; the name has a character and no quote
+-- # include "name" and white space; the name has a character and no quote
 pub record IsInclude (line name : List ℕ) : Type 0 where
   pub before : List ℕ
   pub between : List ℕ
@@ -27,9 +19,9 @@ pub record IsInclude (line name : List ℕ) : Type 0 where
   pub between_blank : AllBlank between
   pub some : 0 < length name
   pub no_quote : IsTrue (list_all (λ c. not (c == 34)) name)
-  pub ends : EndsLine behind
+  pub behind_blank : AllBlank behind
 
--- # pragma once and the end of the line, with white space between the words
+-- # pragma once and white space, with white space between the words
 pub record IsPragma (line : List ℕ) : Type 0 where
   pub before : List ℕ
   pub between : List ℕ
@@ -39,7 +31,7 @@ pub record IsPragma (line : List ℕ) : Type 0 where
   pub before_blank : AllBlank before
   pub some : 0 < length between
   pub between_blank : AllBlank between
-  pub ends : EndsLine behind
+  pub behind_blank : AllBlank behind
 
 pub record Forms : Type 0 where
   pub include : (rest name : List ℕ) → included_name (35 ∷ rest) ≡ Some name → IsInclude (35 ∷ rest) name

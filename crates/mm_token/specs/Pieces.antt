@@ -1,5 +1,5 @@
 -- What a piece of a text is, and the longest piece at its front (ISO/IEC 14882:1998, 2.1 and 2.4).
-use Rattle.std.specs.Prelude.{◌≡◌, ◌≢◌, ℕ, ◌<◌, Bool, true, false, not, ◌&&◌, ◌==◌, IsTrue, List, [], ◌∷◌, ◌++◌, length, ◌⊎◌}
+use Rattle.std.specs.Prelude.{◌≡◌, ◌≢◌, ℕ, ◌<◌, Bool, true, false, not, ◌&&◌, ◌||◌, ◌==◌, if◌then◌else◌, IsTrue, List, [], ◌∷◌, ◌++◌, length, ◌⊎◌}
 use Rattle.std.specs.List.{list_all}
 use Rattle.mm_token.specs.Characters.{sort_of, continues, is_pair}
 use Rattle.mm_token.specs.declared.piece.Sort.TheVariants as sort_is
@@ -63,29 +63,46 @@ IsMark (c ∷ []) = (sort_of c ≡ sort_is.Slash) ⊎ ((sort_of c ≡ sort_is.Pu
 IsMark (c ∷ d ∷ []) = ((sort_of c ≡ sort_is.Slash) ⊎ (sort_of c ≡ sort_is.Punctuation)) × IsTrue (is_pair c d)
 IsMark (c ∷ d ∷ e ∷ r) = ⊥
 
--- # and what stands before the end of the line, where # is the first character of its line past white space (clause 16)
-abbrev pub IsDirective : Bool → List ℕ → Type 0
-IsDirective fresh [] = ⊥
-IsDirective fresh (c ∷ r) = (fresh ≡ true) × (sort_of c ≡ sort_is.Hash) × IsTrue (list_all (λ e. not (e == 10)) r)
+-- whether a directive goes on with the first of these characters: the line doesn't end here, nor does // begin here,
+-- which begins no comment in quotes (2.7, 2.8)
+abbrev pub goes_on_line : Bool → List ℕ → Bool
+goes_on_line quoted [] = false
+goes_on_line quoted (c ∷ []) = not (c == 10)
+goes_on_line quoted (c ∷ d ∷ r) = not (c == 10) && (quoted || not (c == 47 && d == 47))
 
--- what texts a shape has; fresh says that only white space stands before on the line
-abbrev pub IsPiece : Bool → Shape → List ℕ → Type 0
-IsPiece fresh shape.Blank cs = IsBlank cs
-IsPiece fresh shape.Line cs = IsLine cs
-IsPiece fresh shape.Block cs = IsBlock cs
-IsPiece fresh shape.Open cs = IsOpen cs
-IsPiece fresh shape.Word cs = IsWord cs
-IsPiece fresh shape.Number cs = IsNumber cs
-IsPiece fresh shape.Mark cs = IsMark cs
-IsPiece fresh shape.Directive cs = IsDirective fresh cs
+-- whether the next character stands in quotes
+abbrev pub quoted_after : Bool → ℕ → Bool
+quoted_after quoted c = if c == 34 then not quoted else quoted
+
+-- whether a directive goes on with all of these characters, before this rest
+abbrev pub is_on_line : Bool → List ℕ → List ℕ → Bool
+is_on_line quoted [] rest = true
+is_on_line quoted (c ∷ r) rest = goes_on_line quoted (c ∷ (r ++ rest)) && is_on_line (quoted_after quoted c) r rest
+
+-- # and what stands before the end of the line or a comment to it, where # is the first character of its line past white
+-- space (clause 16)
+abbrev pub IsDirective : Bool → List ℕ → List ℕ → Type 0
+IsDirective fresh [] rest = ⊥
+IsDirective fresh (c ∷ r) rest = (fresh ≡ true) × (sort_of c ≡ sort_is.Hash) × IsTrue (is_on_line false r rest)
+
+-- what texts a shape has, before this rest; fresh says that only white space stands before on the line
+abbrev pub IsPiece : Bool → Shape → List ℕ → List ℕ → Type 0
+IsPiece fresh shape.Blank cs rest = IsBlank cs
+IsPiece fresh shape.Line cs rest = IsLine cs
+IsPiece fresh shape.Block cs rest = IsBlock cs
+IsPiece fresh shape.Open cs rest = IsOpen cs
+IsPiece fresh shape.Word cs rest = IsWord cs
+IsPiece fresh shape.Number cs rest = IsNumber cs
+IsPiece fresh shape.Mark cs rest = IsMark cs
+IsPiece fresh shape.Directive cs rest = IsDirective fresh cs rest
 
 -- ---- the longest piece
 
 -- The text begins with this piece, and with no longer one (2.4/3).
 pub record IsLongest (fresh : Bool) (text : List ℕ) (kind : Shape) (piece rest : List ℕ) : Type 0 where
   pub cut : text ≡ piece ++ rest
-  pub is_piece : IsPiece fresh kind piece
-  pub longest : (other : Shape) (c : ℕ) (more tail : List ℕ) → rest ≡ (c ∷ more) ++ tail → IsPiece fresh other (piece ++ c ∷ more) → ⊥
+  pub is_piece : IsPiece fresh kind piece rest
+  pub longest : (other : Shape) (c : ℕ) (more tail : List ℕ) → rest ≡ (c ∷ more) ++ tail → IsPiece fresh other (piece ++ c ∷ more) tail → ⊥
 
 -- The text begins with a longest piece of this shape, which this rest follows.
 abbrev pub Begins : Bool → List ℕ → Shape → List ℕ → Type 0
@@ -93,4 +110,4 @@ Begins fresh text kind rest = (piece : List ℕ) × (0 < length piece) × IsLong
 
 -- The text begins with no piece.
 abbrev pub HasNone : Bool → List ℕ → Type 0
-HasNone fresh text = (kind : Shape) (piece tail : List ℕ) → text ≡ piece ++ tail → IsPiece fresh kind piece → ⊥
+HasNone fresh text = (kind : Shape) (piece tail : List ℕ) → text ≡ piece ++ tail → IsPiece fresh kind piece tail → ⊥

@@ -1,6 +1,7 @@
 -- What the scanner's small functions ask and answer.
-use Rattle.std.specs.Prelude.{◌≡◌, ℕ, ◌<◌, ◌≤◌, Bool, not, IsTrue, List, [], ◌∷◌, length, slice_index, ◌⊎◌}
+use Rattle.std.specs.Prelude.{◌≡◌, ℕ, ◌<◌, ◌≤◌, Bool, not, if◌then◌else◌, IsTrue, List, [], ◌∷◌, length, slice_index, ◌⊎◌}
 use Rattle.mm_token.specs.Characters.{sort_of}
+use Rattle.mm_token.specs.Pieces.{goes_on_line, quoted_after}
 use Rattle.mm_token.specs.Words.{is_number, is_in_range, value_of}
 use Rattle.mm_token.specs.declared.words.Wrong.{Wrong}
 use Rattle.mm_token.specs.declared.words.Wrong.TheVariants as wrong
@@ -12,6 +13,11 @@ pub record IsRunOf (p : ℕ → Bool) (text : List ℕ) (n : ℕ) : Type 0 where
   pub within : n ≤ length text
   pub passes : (k : ℕ) → k < n → IsTrue (p (slice_index text k))
   pub stops : n < length text → IsTrue (not (p (slice_index text n)))
+
+-- what stands behind a directive, of which so much was read
+abbrev pub behind_line : Bool → List ℕ → List ℕ
+behind_line quoted [] = []
+behind_line quoted (c ∷ r) = if goes_on_line quoted (c ∷ r) then behind_line (quoted_after quoted c) r else c ∷ r
 
 -- which texts begin a comment, or else a mark if any piece
 abbrev pub BeginsComment : List ℕ → Type 0

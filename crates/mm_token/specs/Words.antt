@@ -78,14 +78,9 @@ past_word [] cs = Some cs
 past_word (w ∷ ws) [] = None
 past_word (w ∷ ws) (c ∷ cs) = if w == c then past_word ws cs else None
 
--- white space, and then nothing or a comment to the end of the line
-abbrev pub is_end : List ℕ → Bool
-is_end [] = true
-is_end (c ∷ []) = false
-is_end (c ∷ d ∷ cs) = c == 47 && d == 47
-
+-- white space to the end; a comment that follows is a piece of its own
 abbrev pub ends_line : List ℕ → Bool
-ends_line cs = is_end (past_blanks cs)
+ends_line cs = list_all is_blank cs
 
 -- the name between the quotes, of which the first was read: one or more characters, and then the line's end
 abbrev pub named_up_to : Option ℕ → List ℕ → Option (List ℕ)

@@ -1,9 +1,9 @@
 // The pieces of a text: its tokens, its white space, its comments and its directives.
 
-ghost use Rattle.std.specs.Prelude.{◌≡◌, ◌≢◌, ◌+◌, ◌<◌, ◌≤◌, ◌==◌, not, length, take, IsTrue, MatchOption};
+ghost use Rattle.std.specs.Prelude.{◌≡◌, ◌≢◌, ◌+◌, ◌<◌, ◌≤◌, ◌==◌, not, false, length, take, IsTrue, MatchOption};
 ghost use Rattle.mm_token.specs.Characters.{sort_of, is_punctuation as punctuation, continues, is_pair, begins_pair};
-ghost use Rattle.mm_token.specs.Pieces.{is_open, is_closed, Begins, HasNone};
-ghost use Rattle.mm_token.specs.Runs.{IsRunOf, MayBeMark, BeginsWith};
+ghost use Rattle.mm_token.specs.Pieces.{is_open, is_closed, goes_on_line, Begins, HasNone};
+ghost use Rattle.mm_token.specs.Runs.{behind_line, IsRunOf, MayBeMark, BeginsWith};
 ghost use Rattle.mm_token.specs.declared.piece.Sort.TheVariants.{Slash};
 
 /// What a character may begin.
@@ -34,7 +34,7 @@ pub enum Shape {
     /// A digit, and all that an identifier's characters add to it.
     Number,
     Mark,
-    /// A line that begins with `#`.
+    /// A line that begins with `#`, up to a `//` comment.
     Directive,
 }
 
@@ -123,6 +123,32 @@ fn line_len(text: &[u32]) -> usize
     n
 }
 
+/// Whether a directive goes on with the first character. A `//` in quotes begins no comment.
+fn goes_on_with(text: &[u32], quoted: bool) -> bool
+    ensures { result ≡ goes_on_line quoted text.now }
+{
+    match text {
+        [] => false,
+        [first] => *first != 10,
+        [first, second, ..] => *first != 10 && (quoted || *first != 47 || *second != 47),
+    }
+}
+
+/// What stands behind a directive, of which the `#` was read: nothing, the line's end or a `//` comment.
+fn past_line(text: &[u32]) -> &[u32]
+    ensures { result.now ≡ behind_line false text.now }
+{
+    let mut n = 0;
+    let mut quoted = false;
+    while n < text.len() && goes_on_with(&text[n..], quoted) {
+        if text[n] == 34 {
+            quoted = !quoted;
+        }
+        n += 1;
+    }
+    &text[n..]
+}
+
 /// Where the first end of a comment ends.
 fn comment_len(text: &[u32]) -> Option<usize>
     ensures { MatchOption result (IsTrue (is_open text.now)) (λ n. (n ≤ length text.now) × IsTrue (is_closed (take n text.now))) }
@@ -208,7 +234,7 @@ pub fn piece(text: &[u32], fresh: bool) -> Option<(Shape, &[u32])>
             Sort::Punctuation => mark(text, fresh),
             Sort::Hash => {
                 if fresh {
-                    Some((Shape::Directive, &rest[line_len(rest)..]))
+                    Some((Shape::Directive, past_line(rest)))
                 } else {
                     None
                 }

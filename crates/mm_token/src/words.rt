@@ -253,15 +253,11 @@ fn past_word<'a>(word: &[u8], text: &'a [u32]) -> Option<&'a [u32]>
     Some(&text[n..])
 }
 
-/// Whether a line ends here but for white space and a comment.
+/// Whether only white space is left.
 fn ends_line(text: &[u32]) -> bool
     ensures { result ≡ line_ended text.now }
 {
-    match past_blanks(text) {
-        [] => true,
-        [first, second, ..] => *first == 47 && *second == 47,
-        _ => false,
-    }
+    text.iter().all(|c| is_blank(*c))
 }
 
 /// The name behind its opening quote, where the next quote stands at `n`.

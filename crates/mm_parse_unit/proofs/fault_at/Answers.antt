@@ -9,4 +9,4 @@ returns-in-Ok-true c end =
 
 pub returns-in-Ok-false : goal.returns-in-Ok-false
 returns-in-Ok-false c end =
-    no_unit_at c.args.tokens.now c.args.at c.index-tokens-at.result end c.requires.within c.requires.stops (subst (λ v. GoesOn (take (c.args.at + 1) c.args.tokens.now) v) c.in-Ok-false.field-0-test c.in-Ok-false.ensures)
+    no_unit_at c.args.tokens.now c.args.at c.index-tokens-at.result end c.requires.short c.requires.within c.requires.stops (subst (λ v. GoesOn (take (c.args.at + 1) c.args.tokens.now) v) c.in-Ok-false.field-0-test c.in-Ok-false.ensures)

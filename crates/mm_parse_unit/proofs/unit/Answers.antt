@@ -1,4 +1,4 @@
-use Rattle.std.proofs.Common.{refl}
+use Rattle.std.proofs.Common.{refl, ap, arith, length}
 use Rattle.mm_parse_unit.proofs.Faults.{is_tree, reading_of_tree, reading_of_fault, no_text}
 use Rattle.mm_parse_unit.proofs.unit.Goals as goal
 
@@ -19,3 +19,10 @@ pub first_fault-requires-in-Err-Fault-clause-no_text :
     goal.first_fault-requires-in-Err-Fault-clause-no_text
 first_fault-requires-in-Err-Fault-clause-no_text c =
     no_text c.as_slice-list.result.now _ _ _ c.rest-left-in-Err-Fault.result.now c.first_past-at.result c.in-Err-Fault.field-0 c.in-Err-Fault.field-0-is c.new-cursor.ensures refl c.rest-left-in-Err-Fault.ensures c.in-Err-Fault.ensures.reads
+
+pub first_fault-requires-clause-short : goal.first_fault-requires-clause-short
+first_fault-requires-clause-short c = omega (arith, ap length c.as_slice-list.ensures, c.args.tokens.now.few, c.args.tokens.now.limited)
+
+pub first_fault-requires-in-Err-Fault-clause-short :
+    goal.first_fault-requires-in-Err-Fault-clause-short
+first_fault-requires-in-Err-Fault-clause-short c = omega (arith, ap length c.as_slice-list.ensures, c.args.tokens.now.few, c.args.tokens.now.limited)

@@ -1,7 +1,9 @@
-use Rattle.std.proofs.Common.{rules, ◌∙◌}
+use Rattle.std.proofs.Common.{rules, ap, sym, ◌∙◌, [], ◌∷◌}
 use Rattle.mm_syntax.specs.declared.expr.ExprKind.{the_lemmas}
-use Rattle.mm_syntax.specs.Forms.{shown_expr}
-use Rattle.mm_syntax.proofs.Walked.{made_list, called_list, adds_more, unary_one}
+use Rattle.mm_syntax.specs.Shown.{shown_expr}
+use Rattle.mm_syntax.specs.declared.walk.Built.TheVariants.{Nothing}
+use Rattle.mm_syntax.specs.Walk.{one_tree}
+use Rattle.mm_syntax.proofs.Walked.{made_list, called_list, adds_more, unary_one, plainly_all, inside_one}
 use Rattle.mm_syntax.proofs.walk.+walk.Goals as goal
 
 pub made-returns : goal.made-returns
@@ -16,3 +18,9 @@ exprs-loop-tree-preserved t c =
 
 pub expr-returns-in-Unary : goal.expr-returns-in-Unary
 expr-returns-in-Unary t c = let a = c.unary.ensures ∙ unary_one c.args.wanted c.in-Unary.operator c.args.tree.now.place c.expr-in-Unary.result (shown_expr c.get-in-Unary.result.now) c.expr-in-Unary.ensures in search (rules, the_lemmas)
+
+pub expr-returns-in-Step : goal.expr-returns-in-Step
+expr-returns-in-Step t c =
+    let x = shown_expr c.get-in-Step.result.now in
+    let a = c.plain-in-Step.ensures ∙ plainly_all c.args.wanted Nothing c.args.tree.now.place c.one-in-Step.result (x ∷ []) (c.one-in-Step.ensures ∙ (ap one_tree c.expr-in-Step.ensures ∙ sym (inside_one c.args.wanted x))) in
+    search (rules, the_lemmas)

@@ -1,5 +1,6 @@
 use Rattle.std.proofs.Common.{◌≡◌, ◌++◌, List, map, take}
-use Rattle.mm_syntax.specs.Forms.{shown_expr, Shown}
+use Rattle.mm_syntax.specs.Forms.{Shown}
+use Rattle.mm_syntax.specs.Shown.{shown_expr}
 use Rattle.mm_syntax.specs.Walk.{inside}
 use Rattle.mm_syntax.proofs.walk.+walk.Given as goal
 

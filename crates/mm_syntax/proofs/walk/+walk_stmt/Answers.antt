@@ -1,4 +1,4 @@
-use Rattle.mm_syntax.specs.Forms.{shown_stmt}
+use Rattle.mm_syntax.specs.Shown.{shown_stmt}
 use Rattle.mm_syntax.proofs.Walked.{all_more}
 use Rattle.mm_syntax.proofs.walk.+walk_stmt.Goals as goal
 

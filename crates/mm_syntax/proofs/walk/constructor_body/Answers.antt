@@ -1,6 +1,6 @@
 use Rattle.std.proofs.Common.{rules, [], ◌∷◌, ◌++◌, ◌∙◌, ap, append_assoc}
 use Rattle.std.specs.List.{flat_map}
-use Rattle.mm_syntax.specs.Forms.{init_shown, shown_stmt}
+use Rattle.mm_syntax.specs.Shown.{init_shown, shown_stmt}
 use Rattle.mm_syntax.specs.Walk.{inside}
 use Rattle.mm_syntax.proofs.walk.constructor_body.Goals as goal
 

@@ -1,6 +1,7 @@
 use Rattle.std.proofs.Common.{rules, [], map}
 use Rattle.mm_syntax.specs.declared.form.Form.TheVariants.{Construct}
-use Rattle.mm_syntax.specs.Forms.{shown_expr, of_form}
+use Rattle.mm_syntax.specs.Forms.{of_form}
+use Rattle.mm_syntax.specs.Shown.{shown_expr}
 use Rattle.mm_syntax.proofs.walk.declarator.Goals as goal
 
 pub returns-in-Arguments : goal.returns-in-Arguments

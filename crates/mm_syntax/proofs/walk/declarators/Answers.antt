@@ -1,4 +1,4 @@
-use Rattle.mm_syntax.specs.Forms.{declarator_shown}
+use Rattle.mm_syntax.specs.Shown.{declarator_shown}
 use Rattle.mm_syntax.proofs.Walked.{adds_many}
 use Rattle.mm_syntax.proofs.walk.declarators.Goals as goal
 

@@ -1,6 +1,6 @@
 use Rattle.std.proofs.Common.{take}
 use Rattle.std.specs.List.{flat_map}
-use Rattle.mm_syntax.specs.Forms.{declarator_shown}
+use Rattle.mm_syntax.specs.Shown.{declarator_shown}
 use Rattle.mm_syntax.specs.Walk.{Adds}
 use Rattle.mm_syntax.proofs.walk.declarators.Given as goal
 

@@ -1,5 +1,5 @@
 use Rattle.std.proofs.Common.{◌≡◌, map, take}
-use Rattle.mm_syntax.specs.Forms.{shown_decl}
+use Rattle.mm_syntax.specs.Shown.{shown_decl}
 use Rattle.mm_syntax.specs.Walk.{inside}
 use Rattle.mm_syntax.proofs.walk.decls.Given as goal
 

@@ -1,5 +1,6 @@
 use Rattle.std.proofs.Common.{rules, [], ◌∷◌, ◌++◌}
-use Rattle.mm_syntax.specs.Forms.{head_shown, shown_stmt}
+use Rattle.mm_syntax.specs.Forms.{head_shown}
+use Rattle.mm_syntax.specs.Shown.{shown_stmt}
 use Rattle.mm_syntax.proofs.walk.defined.Goals as goal
 
 pub returns : goal.returns

@@ -1,5 +1,6 @@
 use Rattle.std.proofs.Common.{rules, [], ◌∷◌, ◌++◌, map}
-use Rattle.mm_syntax.specs.Forms.{head_shown, shown_stmt, param_shown, body_shown, maybe_block, maybe_body}
+use Rattle.mm_syntax.specs.Forms.{head_shown, param_shown}
+use Rattle.mm_syntax.specs.Shown.{shown_stmt, body_shown, maybe_block, maybe_body}
 use Rattle.mm_syntax.proofs.walk.function.Goals as goal
 
 pub returns-in-Declaration : goal.returns-in-Declaration

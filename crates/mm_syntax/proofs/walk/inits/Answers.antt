@@ -1,5 +1,5 @@
 use Rattle.std.proofs.Common.{map, subst}
-use Rattle.mm_syntax.specs.Forms.{init_shown, shown_expr}
+use Rattle.mm_syntax.specs.Shown.{init_shown, shown_expr}
 use Rattle.mm_syntax.specs.Walk.{Adds}
 use Rattle.mm_syntax.proofs.Walked.{adds_many}
 use Rattle.mm_syntax.proofs.walk.inits.Goals as goal

@@ -1,4 +1,4 @@
-use Rattle.mm_syntax.specs.Forms.{member_shown}
+use Rattle.mm_syntax.specs.Shown.{member_shown}
 use Rattle.mm_syntax.proofs.Walked.{all_many}
 use Rattle.mm_syntax.proofs.walk.members.Goals as goal
 

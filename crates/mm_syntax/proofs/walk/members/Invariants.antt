@@ -1,6 +1,6 @@
 use Rattle.std.proofs.Common.{◌≡◌, take}
 use Rattle.std.specs.List.{flat_map}
-use Rattle.mm_syntax.specs.Forms.{member_shown}
+use Rattle.mm_syntax.specs.Shown.{member_shown}
 use Rattle.mm_syntax.specs.Walk.{inside}
 use Rattle.mm_syntax.proofs.walk.members.Given as goal
 

@@ -1,6 +1,7 @@
 use Rattle.std.proofs.Common.{rules, [], ◌∷◌}
 use Rattle.std.specs.List.{flat_map}
-use Rattle.mm_syntax.specs.Forms.{shown_type, declarator_shown}
+use Rattle.mm_syntax.specs.Forms.{shown_type}
+use Rattle.mm_syntax.specs.Shown.{declarator_shown}
 use Rattle.mm_syntax.proofs.walk.variables.Goals as goal
 
 pub returns : goal.returns

@@ -16,7 +16,7 @@ pub returns-in-Other : goal.returns-in-Other
 returns-in-Other c = other_at c.args.fresh c.args.text.now _ (omega arith) refl (sym c.in-Other.ensures)
 
 pub returns-then-fresh : goal.returns-then-fresh
-returns-then-fresh c = simp take_rest (directive_at c.args.fresh c.args.text.now _ c.line_len.result (omega arith) refl (sym c.in-Hash.ensures) c.if-fresh.true (simp take_rest at c.line_len.ensures))
+returns-then-fresh c = directive_at c.args.fresh c.args.text.now _ _ (omega arith) refl (sym c.in-Hash.ensures) c.if-fresh.true (simp take_rest at c.past_line.ensures)
 
 pub returns-else-fresh : goal.returns-else-fresh
 returns-else-fresh c = stray_at c.args.fresh c.args.text.now _ (omega arith) refl (sym c.in-Hash.ensures) c.if-fresh.false

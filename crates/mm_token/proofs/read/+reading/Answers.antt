@@ -72,7 +72,7 @@ read_text-put-requires g t c =
           i.agrees,
           (
             piece_room (state_of c.args.unit.now) (state_of c.pieces.unit) c.args.text.now _ _ _ c.requires.1.1.1.1.0 i.counted i.limited (taken_length _ _ _ _ _ _ _ _ _ taken),
-            (taken.some, (taken.is_good, token_is_text _ _ _ taken.is_longest.is_piece)),
+            (taken.some, (taken.is_good, token_is_text _ _ _ _ taken.is_longest.is_piece)),
           ),
         ),
       ),
