@@ -1,1 +1,16 @@
-pub mod Settling
+pub mod Views
+pub mod Written
+mod Rows
+mod Dispatched
+mod Accepted
+mod Shapes
+mod Quiet
+pub mod Congruent
+pub mod Scalars
+pub mod Heap
+pub mod Sound
+pub mod SoundCalls
+pub mod Sets
+pub mod Overriding
+pub mod Longer
+pub mod Deep

@@ -1,12 +1,10 @@
 -- A run that came to its end stays as it is at higher bounds, and one that goes on has put a front of what is put later. (Own.)
-use Rattle.std.specs.Prelude.{◌≡◌, ◌⊎◌, ℕ, suc, ℤ, List, ◌++◌}
+use Rattle.std.specs.Prelude.{◌≡◌, ◌⊎◌, ℕ, suc, ◌≤◌, ℤ, List}
+use Rattle.mm_meaning.specs.Same.{Same, IsFront}
 use Rattle.mm_core.specs.Tree.{Program}
-use Rattle.mm_core.specs.State.{State}
+use Rattle.mm_core.specs.State.{Value, State}
+use Rattle.mm_core.specs.Meaning.{call_of}
 use Rattle.mm_core.specs.Run.{Outcome, GoesOn, source_run}
-
--- the one list begins with the other
-abbrev pub IsFront : List ℤ → List ℤ → Type 0
-IsFront zs all = (more : List ℤ) × (all ≡ zs ++ more)
 
 -- nothing that was put is taken back
 pub record Before (s t : State) : Type 0 where
@@ -18,3 +16,7 @@ SettlesAt o o' = (o' ≡ o) ⊎ ((o.finish ≡ GoesOn) × IsFront o.put o'.put)
 
 pub record Settles : Type 0 where
   pub by : (p : Program) (input : List ℤ) (n : ℕ) → SettlesAt (source_run p input n) (source_run p input (suc n))
+
+-- The depth of calls is no bound beside the clock: all depths that are no less than the clock give one run.
+pub record DeepEnough : Type 0 where
+  pub by : (p : Program) (c n m f : ℕ) (vs : List Value) → c ≤ n → c ≤ m → Same c (call_of p n f vs) (call_of p m f vs)

@@ -1,9 +1,30 @@
 // What holds of all runs.
 
-ghost use Rattle.mm_core.specs.Settles.{Settles};
+ghost use Rattle.std.specs.Prelude.{List};
+ghost use Rattle.mm_classes.specs.Classes.{Class, IsClassList};
+ghost use Rattle.mm_core.specs.Relations.{Orders, Reads};
+ghost use Rattle.mm_core.specs.Settles.{DeepEnough, Settles};
 
 /// A run that ended or trapped is the same at every higher bound; one that goes on has put a front of what it puts at a higher one.
-#[tactic(auto, using(crate::proofs::Settling::settles))]
+#[tactic(auto, using(crate::proofs::Longer::settles))]
 pub fn settles()
     ensures { Settles }
+{}
+
+/// The clock left is no more than was given, and the depth of calls is no bound beside the clock.
+#[tactic(auto, using(crate::proofs::Deep::deep_enough))]
+pub fn deep_enough()
+    ensures { DeepEnough }
+{}
+
+/// The computed sets of subobjects are what the relations say.
+#[tactic(auto, using(crate::proofs::Sets::reads_sets))]
+pub fn reads_sets()
+    ensures { (g : List Class) → IsClassList g → Reads g }
+{}
+
+/// Overriding is transitive, and no declaration overrides itself.
+#[tactic(auto, using(crate::proofs::Overriding::orders))]
+pub fn orders()
+    ensures { (g : List Class) → IsClassList g → Orders g }
 {}
