@@ -15,7 +15,7 @@ use Rattle.mm_core.specs.declared.part.CoreParam.{CoreParam}
 use Rattle.mm_core.specs.Tree.{Function}
 use Rattle.mm_core.specs.Heads.{type_code, same_type, same_types, types_of_params}
 use Rattle.mm_core.specs.Sets.{is_a}
-use Rattle.mm_core.specs.Winners.{type_overrides, param_overrides, params_override, overrides}
+use Rattle.mm_core.specs.Families.{type_overrides, param_overrides, params_override, overrides}
 use Rattle.mm_core.specs.Relations.{Orders}
 use Rattle.mm_core.proofs.Sets.{and_is, is_and, is_a-way, way-is_a, is_a-Derives}
 

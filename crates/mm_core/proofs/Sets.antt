@@ -14,7 +14,7 @@ use Rattle.mm_classes.proofs.Subs.{subobjects_are, are_subobjects, subobjects-Di
 use Rattle.mm_classes.proofs.Deriving.{derives_ends, sub_derives}
 use Rattle.mm_core.specs.Heads.{same_function}
 use Rattle.mm_core.specs.Sets.{only, is_some_of, contains, ups, is_a, arounds, tops}
-use Rattle.mm_core.specs.Moves.{overriders}
+use Rattle.mm_core.specs.Finals.{overriders}
 use Rattle.mm_core.specs.Relations.{IsOnly, IsWay, IsAround, IsOverrider, IsTop, Reads}
 
 -- ---- lists

@@ -5,9 +5,12 @@ pub mod Heads
 pub mod State
 pub mod Scalar
 pub mod Objects
+pub mod Finals
 pub mod Moves
 pub mod Virtual
-pub mod Winners
+pub mod Families
+pub mod Ordering
+pub mod Dispatch
 pub mod Open
 pub mod Meaning
 pub mod Run

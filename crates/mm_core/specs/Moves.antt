@@ -1,24 +1,16 @@
 -- How a run gets from one subobject of an object to another. Nothing else changes which subobject a pointer shows.
 -- (ISO/IEC 14882, 4.10/3, 10.3 and 12.6.2/8, in the words of Rossie and Friedman.)
-use Rattle.std.specs.Prelude.{ℕ, ◌&&◌, List, filter, Option, Some, None, Result, Ok, Err}
+use Rattle.std.specs.Prelude.{ℕ, List, Option, Some, None, Result, Ok, Err}
 use Rattle.mm_base.specs.declared.num.Trap.{Trap}
 use Rattle.mm_base.specs.declared.num.Trap.TheVariants as by
 use Rattle.mm_classes.specs.declared.class.Member.{Member}
 use Rattle.mm_classes.specs.declared.class.Ty.{Ty}
-use Rattle.mm_classes.specs.Classes.{Class, members_of}
-use Rattle.mm_classes.specs.Subobjects.{Path, subobjects_of, end_of, compose}
-use Rattle.std.specs.List.{list_any}
-use Rattle.mm_core.specs.Sets.{only, contains, ups, arounds, tops}
-use Rattle.mm_core.specs.Heads.{class_in, same_function}
+use Rattle.mm_classes.specs.Classes.{Class}
+use Rattle.mm_classes.specs.Subobjects.{Path, compose}
+use Rattle.mm_core.specs.Sets.{only, ups, arounds}
+use Rattle.mm_core.specs.Heads.{class_in}
+use Rattle.mm_core.specs.Finals.{final_of}
 use Rattle.mm_core.specs.State.{Value, Truth, Number, Word, Null, At, Nothing, State, class_of, Operation}
-
--- the subobjects of d that contain s and declare the function
-abbrev pub overriders : List Class → ℕ → Path → Member → List Path
-overriders g d s m = filter (λ t. contains g t s && list_any (same_function m) (members_of g (end_of t))) (subobjects_of g d)
-
--- The final overrider: the only one that is contained in no other of them (10.3/2).
-abbrev pub final_of : List Class → ℕ → Path → Member → Option Path
-final_of g d s m = only (tops g (overriders g d s m))
 
 -- The ways on from a subobject: to a base of it, along a path; to the final overrider of a function that it declares; and to
 -- the subobject of a class that contains it.

@@ -1,4 +1,4 @@
--- Calls of open-methods. (Own, after the paper that Winners names.)
+-- Calls of open-methods. (Own, after the paper that Families names.)
 use Rattle.std.specs.Prelude.{ℕ, true, List, [], ◌∷◌, filter, Option, Some, None, Result, Ok, Err, nat_eq, slice_get, if◌then◌else◌}
 use Rattle.mm_base.specs.declared.num.Trap.{Trap}
 use Rattle.mm_base.specs.declared.num.Trap.TheVariants as by
@@ -9,9 +9,10 @@ use Rattle.mm_core.specs.declared.part.CoreParam.{CoreParam}
 use Rattle.mm_core.specs.Tree.{Program}
 use Rattle.mm_core.specs.Sets.{ups}
 use Rattle.mm_core.specs.State.{Value, At, Object, State, class_of}
-use Rattle.mm_core.specs.Moves.{to_around, moved}
 use Rattle.mm_core.specs.Virtual.{Calls, on_some, reads, Entry, entered}
-use Rattle.mm_core.specs.Winners.{Declared, opens_of, over, base_methods, declared_before, first_by, classes_of, Row, winner_of}
+use Rattle.mm_core.specs.Families.{classes_of, Declared, opens_of, over, base_methods}
+use Rattle.mm_core.specs.Ordering.{declared_before, first_by}
+use Rattle.mm_core.specs.Dispatch.{Row, parameters_of, winner_of}
 
 -- ---- the first choice of base-method and path
 
@@ -69,12 +70,6 @@ raised (row ∷ rows) [] = None
 raised (row ∷ rows) (None ∷ qs) = None
 raised (row ∷ rows) (Some q ∷ qs) = row_before (record { class = row.class; part = compose row.part q }) (raised rows qs)
 
--- The parameters of a declaration at rows: at each position the only subobject of its class that contains the row's.
-abbrev pub parameters : List Class → List Row → List ℕ → List (Option Path)
-parameters g [] cs = []
-parameters g (row ∷ rows) [] = []
-parameters g (row ∷ rows) (c ∷ cs) = moved g (to_around c) row.class row.part ∷ parameters g rows cs
-
 -- pointers to other subobjects of the same objects
 abbrev pub shown : List Value → List (Option Path) → List Value
 shown [] ts = []
@@ -88,7 +83,7 @@ shown (v ∷ vs) (t ∷ ts) = v ∷ shown vs ts
 abbrev pub won : List Class → Declared → List Value → List Row → Declared → Entry
 won g o vs rows w = record {
   function = w.number;
-  arguments = with_virtuals o.function.params vs (shown (virtual_values o.function.params vs) (parameters g rows (classes_of w.function)));
+  arguments = with_virtuals o.function.params vs (shown (virtual_values o.function.params vs) (parameters_of g rows (classes_of w.function)));
   declared = o.function.result;
 }
 

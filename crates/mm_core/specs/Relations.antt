@@ -8,8 +8,8 @@ use Rattle.mm_classes.specs.Subobjects.{Path, IsSubobject, end_of, IsWithin}
 use Rattle.mm_core.specs.Tree.{Function}
 use Rattle.mm_core.specs.Heads.{same_function}
 use Rattle.mm_core.specs.Sets.{only, ups, is_a, arounds}
-use Rattle.mm_core.specs.Moves.{final_of}
-use Rattle.mm_core.specs.Winners.{overrides}
+use Rattle.mm_core.specs.Finals.{final_of}
+use Rattle.mm_core.specs.Families.{overrides}
 
 -- x alone has the property
 pub record IsOnly {X : Type 0} (P : X → Type 0) (x : X) : Type 0 where

@@ -11,9 +11,10 @@ use Rattle.mm_classes.specs.Subobjects.{Path, IsSubobject, subobjects_of, end_of
 use Rattle.mm_core.specs.declared.part.CoreParam.{CoreParam}
 use Rattle.mm_core.specs.Tree.{Stmt, block, Function, Program}
 use Rattle.mm_core.specs.Heads.{class_in, class_shown, is_reference, type_code, params_in, result_in, same_function, types_of_params, is_method, function_of, owner_of, is_open, argument_types, local_types}
-use Rattle.mm_core.specs.Moves.{final_of}
+use Rattle.mm_core.specs.Finals.{final_of}
 use Rattle.mm_core.specs.Sets.{is_one, is_some_of}
-use Rattle.mm_core.specs.Winners.{is_covariant, Declared, opens_of, over, base_methods, family, classes_of, Row, parts_at, is_viable, Reason, winner_of}
+use Rattle.mm_core.specs.Families.{classes_of, Declared, opens_of, over, base_methods, family_of}
+use Rattle.mm_core.specs.Dispatch.{Row, parts_at, is_viable, Reason, is_covariant, winner_of}
 use Rattle.mm_core.specs.Valid.{Around, is_pointer, IsVirtualIn, IsDestructor, IsValidStmt}
 use Rattle.mm_core.specs.Run.{number_of_main}
 
@@ -126,5 +127,5 @@ are_single (ts ∷ rest) = (if is_some_of ts then is_one ts else true) && are_si
 -- the parameters of the viable declarations are the only ones, and one of them wins.
 pub record IsResolved (p : Program) : Type 0 where
   pub covariant : (r o : Declared) → Has (opens_of p) r → Has (opens_of p) o → IsTrue (over p.classes r o) → IsTrue (is_covariant p.classes r.function.result o.function.result)
-  pub single : (b r : Declared) (rows : List Row) → Has (base_methods p.classes (opens_of p)) b → Has (family p.classes (opens_of p) b) r → AreRows p.classes (classes_of b.function) rows → IsTrue (is_viable p.classes rows r) → IsTrue (are_single (parts_at p.classes rows (classes_of r.function)))
+  pub single : (b r : Declared) (rows : List Row) → Has (base_methods p.classes (opens_of p)) b → Has (family_of p.classes (opens_of p) b) r → AreRows p.classes (classes_of b.function) rows → IsTrue (is_viable p.classes rows r) → IsTrue (are_single (parts_at p.classes rows (classes_of r.function)))
   pub won : (b : Declared) (rows : List Row) → Has (base_methods p.classes (opens_of p)) b → AreRows p.classes (classes_of b.function) rows → (w : Declared) × (reason : Reason) × (winner_of p.classes (opens_of p) b rows ≡ Some (w, reason))
