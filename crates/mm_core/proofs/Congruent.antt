@@ -5,16 +5,15 @@ use Rattle.mm_base.specs.declared.num.Trap.{Trap}
 use Rattle.mm_base.specs.declared.num.Trap.TheVariants as by
 use Rattle.mm_meaning.specs.Run.{◌>>=◌, pure}
 use Rattle.mm_classes.specs.declared.class.Ty.{Ty}
-use Rattle.mm_classes.specs.Questions.{node}
 use Rattle.mm_core.specs.Tree.{Expr, int, unsigned, bool, null, local, set_local, field, set_field, not_null, move, convert, binary, negation, both, either, choose, call, virtual_call, open_call, builtin, new, step_local, step_field, compound, Exprs, no_exprs, expr_and, Stmt, block, run, if_else, while_do, do_while, for_do, break, continue, return_nothing, return, make, Stmts, no_stmts, stmt_and, Function, Program}
-use Rattle.mm_core.specs.Heads.{class_shown, type_at, local_types}
+use Rattle.mm_core.specs.Heads.{local_types}
 use Rattle.mm_core.specs.State.{Value, State, Store, Locals, start, From, trap, or_trap, Operation, at_once, outside}
 use Rattle.mm_core.specs.Scalar.{is_true, operate, changed, compounded}
 use Rattle.mm_core.specs.Moves.{tested_pointer}
 use Rattle.mm_core.specs.Virtual.{Calls, reads, Entry, result_of_entry, entered, virtual_entry, call_virtual}
 use Rattle.mm_core.specs.Open.{open_entry, call_open}
 use Rattle.mm_core.specs.Meaning.{Setting, get_local, put_local, does, value_of, values_of, Flow, Next, Broke, Continued, Returned, unless_left, loop, tested, then_flow, flow_of, flows_of, result_of, enter_body, enter_if, setting_of}
-use Rattle.mm_core.proofs.Quiet.{Quiet, make_quiet, get_quiet, put_quiet, move_quiet, result_quiet, ask_quiet}
+use Rattle.mm_core.proofs.Quiet.{Quiet, make_quiet, variable_quiet, get_quiet, put_quiet, to_quiet, result_quiet, ask_quiet}
 
 -- R relates runs with locals, and Q runs in the state alone.
 pub record Congruence (R : (A : Type 0) → From Store A → From Store A → Type 0) (Q : (A : Type 0) → From State A → From State A → Type 0) : Type 1 where
@@ -24,7 +23,7 @@ pub record Congruence (R : (A : Type 0) → From Store A → From Store A → Ty
   pub on_get : (x : ℕ) → R Value (get_local x) (get_local x)
   pub on_put : (x : ℕ) (v : Value) → R Value (put_local x v) (put_local x v)
   pub on_outside : (m n : From State Value) → Q Value m n → R Value (outside m) (outside n)
-  pub on_loop : (first first' later later' : From Store Flow) → R Flow first first' → R Flow later later' → R Flow (loop first later) (loop first' later')
+  pub on_loop : (before before' body body' : From Store Flow) → R Flow before before' → R Flow body body' → R Flow (loop before body) (loop before' body')
   pub state_then : (A B : Type 0) (m n : From State A) (f g : A → From State B) → Q A m n → ((a : A) → Q B (f a) (g a)) → Q B (m >>= f) (n >>= g)
   pub state_reads : (A : Type 0) (f : State → Result A Trap) → Q A (reads f) (reads f)
   pub state_once : (op : Operation) → Quiet op → Q Value (at_once op) (at_once op)
@@ -88,7 +87,7 @@ module _ (R : (A : Type 0) → From Store A → From Store A → Type 0) (Q : (A
       value_law (field f e) = law.on_then Value Value _ _ _ _ (value_law e) (λ v. on_does _ (get_quiet f v))
       value_law (set_field f e d) = law.on_then Value Value _ _ _ _ (value_law e) (λ v. law.on_then Value Value _ _ _ _ (value_law d) (λ y. on_does _ (put_quiet f v y)))
       value_law (not_null e) = law.on_then Value Value _ _ _ _ (value_law e) (λ v. on_or_trap (tested_pointer v))
-      value_law (move c n e) = law.on_then Value Value _ _ _ _ (value_law e) (λ v. on_does _ (move_quiet p.classes (node p.classes c n) v))
+      value_law (move c n e) = law.on_then Value Value _ _ _ _ (value_law e) (λ v. on_does _ (to_quiet p.classes c n v))
       value_law (convert t e) = law.on_then Value Value _ _ _ _ (value_law e) (λ v. law.on_pure Value _)
       value_law (binary op d e) = law.on_then Value Value _ _ _ _ (value_law d) (λ x. law.on_then Value Value _ _ _ _ (value_law e) (λ y. on_or_trap (operate op x y)))
       value_law (negation e) = law.on_then Value Value _ _ _ _ (value_law e) (λ v. law.on_pure Value _)
@@ -114,14 +113,14 @@ module _ (R : (A : Type 0) → From Store A → From Store A → Type 0) (Q : (A
         flow_law (block ss) = flows_law ss
         flow_law (run e) = law.on_then Value Flow _ _ _ _ (value_law e) (λ v. law.on_pure Flow Next)
         flow_law (if_else e ss ts) = law.on_then Value Flow _ _ _ _ (value_law e) (λ v. on_if Flow (is_true v) _ _ _ _ (flows_law ss) (flows_law ts))
-        flow_law (while_do e ss) = law.on_loop _ _ _ _ (on_tested _ _ _ _ (value_law e) (flows_law ss)) (on_tested _ _ _ _ (value_law e) (flows_law ss))
-        flow_law (do_while ss e) = law.on_loop _ _ _ _ (flows_law ss) (on_tested _ _ _ _ (value_law e) (flows_law ss))
-        flow_law (for_do e st ss) = law.on_loop _ _ _ _ (on_tested _ _ _ _ (value_law e) (flows_law ss)) (on_then_flow _ _ _ _ (flow_law st) (on_tested _ _ _ _ (value_law e) (flows_law ss)))
+        flow_law (while_do e ss) = law.on_loop _ _ _ _ (law.on_pure Flow Next) (on_tested _ _ _ _ (value_law e) (flows_law ss))
+        flow_law (do_while ss e) = law.on_loop _ _ _ _ (on_tested _ _ _ _ (value_law e) (law.on_pure Flow Next)) (flows_law ss)
+        flow_law (for_do e st ss) = law.on_loop _ _ _ _ (flow_law st) (on_tested _ _ _ _ (value_law e) (flows_law ss))
         flow_law break = law.on_pure Flow Broke
         flow_law continue = law.on_pure Flow Continued
         flow_law return_nothing = law.on_pure Flow _
         flow_law (return e) = law.on_then Value Flow _ _ _ _ (value_law e) (λ v. law.on_pure Flow (Returned v))
-        flow_law (make x) = law.on_then Value Flow _ _ _ _ (on_does _ (make_quiet p.classes (class_shown (type_at types x)))) (λ v. law.on_then Value Flow _ _ _ _ (law.on_put x v) (λ y. law.on_pure Flow Next))
+        flow_law (make x) = law.on_then Value Flow _ _ _ _ (on_does _ (variable_quiet p.classes (slice_get types x))) (λ v. law.on_then Value Flow _ _ _ _ (law.on_put x v) (λ y. law.on_pure Flow Next))
 
         flows_law : (ss : Stmts) → R Flow (flows_of w types ss) (flows_of w' types ss)
         flows_law no_stmts = law.on_pure Flow Next

@@ -87,8 +87,8 @@ module _ (g : List Class) where
   as_fits xs (ty.Ref c) Nothing f = absurd f
 
   pub suits_fits : (xs : List Object) (t u : Ty) (v : Value) → Suits t u → Fits g xs t v → Fits g xs u v
-  suits_fits xs t u v (inl e) f = subst (λ z. Fits g xs z v) e f
-  suits_fits xs t u v (inr e) f = subst (λ z. Fits g xs z v) e (as_fits xs t v f)
+  suits_fits xs t u v (n, inl e) f = subst (λ z. Fits g xs z v) e f
+  suits_fits xs t u v (n, inr e) f = subst (λ z. Fits g xs z v) e (as_fits xs t v f)
 
   pub zero_fits : (xs : List Object) (t : Ty) → is_reference t ≡ false → Fits g xs t (zero_of t)
   zero_fits xs ty.Void e = tt

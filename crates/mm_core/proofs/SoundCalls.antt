@@ -20,7 +20,7 @@ use Rattle.mm_core.specs.ValidProgram.{numbers_below, around}
 use Rattle.mm_core.specs.Fits.{Fits, AllFit, Grew, IsState}
 use Rattle.mm_core.proofs.Sets.{and_is}
 use Rattle.mm_core.proofs.Heap.{Gave, zero_fits, either_way}
-use Rattle.mm_core.proofs.Sound.{On, on_weaker, Known, Fine, Went, flow_fits}
+use Rattle.mm_core.proofs.Sound.{On, on_weaker, Frame, Known, Fine, Went, flow_fits}
 
 pub below-Has : (n x : ℕ) → Has (numbers_below n) x → x < n
 below-Has zero x h = elim h [ ]
@@ -78,7 +78,11 @@ module _ (p : Program) (callable : Function → Bool) (calls : Calls) (f : Funct
   abbrev count : ℕ
   count = length (argument_types g f)
 
-  pub result_fits : (ok : (known : List ℕ) → Known p callable types count calls) (known : List ℕ) (s : Store) (x : Run Stop Store Flow) → On (Went p callable types count calls ok f.result false [] known s) x → On (Gave g f.result s.state) (result_of f x)
+  -- what the body of the function stands in
+  abbrev pub inside : Frame
+  inside = record { program = p; callable = callable; types = types; arguments = count; calls = calls }
+
+  pub result_fits : (ok : Known inside) (known : List ℕ) (s : Store) (x : Run Stop Store Flow) → On (Went inside ok f.result false [] known s) x → On (Gave g f.result s.state) (result_of f x)
   result_fits ok known s (Gives Next m k) h = ended (same_type f.result ty.Void) (is_main f) s.state m.state k refl refl h.grew h.fine.state
   result_fits ok known s (Gives Broke m k) h = let e = h.goes in cc
   result_fits ok known s (Gives Continued m k) h = let e = h.goes in cc
@@ -86,12 +90,12 @@ module _ (p : Program) (callable : Function → Bool) (calls : Calls) (f : Funct
   result_fits ok known s (Stops t m) h = tt
 
   -- a function that is entered on arguments of its types
-  pub function_fits : (ok : (known : List ℕ) → Known p callable types count calls) (body : Stmt) (vs : List Value) (s : State) (k : ℕ) → IsValidStmt (around callable p f) f.result false (numbers_below count) body → AllFit g s.objects (argument_types g f) vs → IsState g s → On (Gave g f.result s) (enter (setting_of p calls) f body vs s k)
+  pub function_fits : (ok : Known inside) (body : Stmt) (vs : List Value) (s : State) (k : ℕ) → IsValidStmt (around callable p f) f.result false (numbers_below count) body → AllFit g s.objects (argument_types g f) vs → IsState g s → On (Gave g f.result s) (enter (setting_of p calls) f body vs s k)
   function_fits ok body vs s k v h i =
       let known = numbers_below count in
       let s0 : Store = record { locals = start vs f.locals; state = s } in
-      let fine : Fine p callable types count calls known s0 = record { state = i; locals = λ x l n. start_fits g s.objects (argument_types g f) vs f.locals x h l (λ r. below-Has count x (n r)) } in
-      result_fits ok known s0 (flow_of (setting_of p calls) types body s0 k) (drop_next known s0 (flow_of (setting_of p calls) types body s0 k) (flow_fits p callable types count calls ok f.result body false known s0 k v fine))
+      let fine : Fine inside known s0 = record { state = i; locals = λ x l n. start_fits g s.objects (argument_types g f) vs f.locals x h l (λ r. below-Has count x (n r)) } in
+      result_fits ok known s0 (flow_of (setting_of p calls) types body s0 k) (drop_next known s0 (flow_of (setting_of p calls) types body s0 k) (flow_fits inside ok f.result body false known s0 k v fine))
     where
-      drop_next : (known : List ℕ) (s0 : Store) (x : Run Stop Store Flow) → On (Went p callable types count calls ok f.result false (sets body) known s0) x → On (Went p callable types count calls ok f.result false [] known s0) x
-      drop_next known s0 x q = on_weaker (Went p callable types count calls ok f.result false (sets body) known s0) (Went p callable types count calls ok f.result false [] known s0) x (λ flow m d. record { goes = d.goes; grew = d.grew; fine = d.fine; next = λ e. d.fine }) q
+      drop_next : (known : List ℕ) (s0 : Store) (x : Run Stop Store Flow) → On (Went inside ok f.result false (sets body) known s0) x → On (Went inside ok f.result false [] known s0) x
+      drop_next known s0 x q = on_weaker (Went inside ok f.result false (sets body) known s0) (Went inside ok f.result false [] known s0) x (λ flow m d. record { goes = d.goes; grew = d.grew; fine = d.fine; next = λ e. d.fine }) q
