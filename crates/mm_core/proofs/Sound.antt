@@ -450,9 +450,9 @@ module _ (frame : Frame) where
       turns_went (suc n) now t s zero h = tt
       turns_went (suc n) now t s (suc k) h = on_then (Went true [] known s) (Went in_loop [] known s) (now s k) _ (t s k h) (λ flow m j q.
           then_went in_loop known s m _ q.grew (begun_went in_loop known flow _ _ m j q.goes q.fine
-            (on_then (Went true [] known m) (Went in_loop [] known m) (body m j) _ (d m j q.fine) (λ end z i r.
-              then_went in_loop known m z _ r.grew (next_went in_loop known end (turns_from n before before body) z i r.goes r.fine (turns_went n before b z i r.fine))))
-            (turns_went n (runs.pure Next) (λ z i f. plainly true known z Next f tt) m j q.fine)))
+          (on_then (Went true [] known m) (Went in_loop [] known m) (body m j) _ (d m j q.fine) (λ end z i r.
+          then_went in_loop known m z _ r.grew (next_went in_loop known end (turns_from n before before body) z i r.goes r.fine (turns_went n before b z i r.fine))))
+          (turns_went n (runs.pure Next) (λ z i f. plainly true known z Next f tt) m j q.fine)))
 
       loop_went : (s : Store) (k : ℕ) → Fine known s → On (Went in_loop [] known s) (loop before body s k)
       loop_went s k h = turns_went k (runs.pure Next) (λ z i f. plainly true known z Next f tt) s k h

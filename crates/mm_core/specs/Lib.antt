@@ -17,5 +17,6 @@ pub mod Run
 pub mod Valid
 pub mod ValidProgram
 pub mod Fits
+pub mod Renaming
 pub mod Settles
 pub mod Relations
