@@ -12,7 +12,7 @@ use Rattle.mm_core.specs.Virtual.{reads}
 use Rattle.mm_core.specs.Meaning.{Flow, Next, Broke, Continued, Returned, get_local, put_local, next_turn, begun, turns_from, loop, result_of, call_of}
 use Rattle.mm_meaning.specs.Same.{Leaves, Same}
 use Rattle.mm_meaning.proofs.Sames.{same_then, same_pure, same_stop, same_step, same_less, within_same}
-use Rattle.mm_core.specs.Settles.{DeepEnough}
+use Rattle.mm_core.specs.Settles.{LeavesClock, DeepEnough}
 use Rattle.mm_core.proofs.Quiet.{Quiet}
 use Rattle.mm_core.proofs.Congruent.{Congruence, enter_law}
 
@@ -114,6 +114,14 @@ calls_same p (suc c) zero m f vs le le' = absurd (let x : ⊥ = omega arith in x
 calls_same p (suc c) (suc n) zero f vs le le' = absurd (let x : ⊥ = omega arith in x)
 calls_same p (suc c) (suc n) (suc m) f vs le le' = same_step (enter_law (λ A x y. Same c x y) (λ A x y. Same c x y) (deep c) p (call_of p n) (call_of p m) (λ h ws. calls_same p c n m h ws (omega arith) (omega arith)) (slice_get p.functions f) vs)
 
--- the law
+-- at every clock, whatever the depth
+calls_leave : (p : Program) (c n f : ℕ) (vs : List Value) → Same c (call_of p n f vs) (call_of p n f vs)
+calls_leave p c zero f vs = same_stop Spent
+calls_leave p c (suc n) f vs = same_less (omega arith) (same_step (enter_law (λ A x y. Same c x y) (λ A x y. Same c x y) (deep c) p (call_of p n) (call_of p n) (λ h ws. calls_leave p c n h ws) (slice_get p.functions f) vs))
+
+-- the laws
+pub clock_left : LeavesClock
+clock_left = record { by = λ p n f vs s k. ((calls_leave p k n f vs).by s k (omega arith)).1 }
+
 pub deep_enough : DeepEnough
 deep_enough = record { by = calls_same }

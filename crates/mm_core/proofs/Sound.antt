@@ -32,13 +32,9 @@ use Rattle.mm_core.specs.Open.{call_open}
 use Rattle.mm_core.specs.Meaning.{ask, Setting, put_local, does, value_of, values_of, setting_of, answered, Flow, Next, Broke, Continued, Returned, unless_left, next_turn, begun, turns_from, loop, tested, then_flow, flow_of, flows_of}
 use Rattle.mm_core.specs.Valid.{Around, type_of, types_of, shows, AllSuit, IsVirtualMethod, IsValid, AreValid, is_number, type_answered, AreBranches, as_pointer, result_of_function, result_of_method, IsTest, IsValidStmt, AreValidStmts, sets, set_in}
 use Rattle.mm_core.specs.Fits.{Shows, Fits, AllFit, Grew, IsState}
+use Rattle.mm_core.specs.Keeps.{On, Gave, Frame, Known}
 use Rattle.mm_core.proofs.Scalars.{ResultFits, operate_fits, converted_fits, changed_fits, compounded_fits}
-use Rattle.mm_core.proofs.Heap.{grew_self, grew_on, fits_grew, suits_fits, Gave, Operates, make_operates, get_operates, put_operates, as_fits, either_way}
-
--- what a run gives has the property
-abbrev pub On : {S A : Type 0} → (A → S → Type 0) → Run Stop S A → Type 0
-On P (Gives v s k) = P v s
-On P (Stops x s) = Unit {0}
+use Rattle.mm_core.proofs.Heap.{grew_self, grew_on, fits_grew, suits_fits, Operates, make_operates, get_operates, put_operates, as_fits, either_way}
 
 module _ {S A B : Type 0} where
   on_then : (P : A → S → Type 0) (Q : B → S → Type 0) (x : Run Stop S A) (f : A → From S B) → On P x → ((v : A) (s : S) (k : ℕ) → P v s → On Q (f v s k)) → On Q (runs.then x f)
@@ -53,15 +49,6 @@ module _ {S A : Type 0} where
   pub on_weaker : (P Q : A → S → Type 0) (x : Run Stop S A) → ((v : A) (s : S) → P v s → Q v s) → On P x → On Q x
   on_weaker P Q (Gives v s k) f h = f v s h
   on_weaker P Q (Stops x s) f h = tt
-
--- What a body stands in: the program, the functions that may be called, the types of the locals and how many of them are
--- arguments, and what calls do.
-pub record Frame : Type 0 where
-  pub program : Program
-  pub callable : Function → Bool
-  pub types : List Ty
-  pub arguments : ℕ
-  pub calls : Calls
 
 module _ (frame : Frame) where
   abbrev p : Program
@@ -81,14 +68,6 @@ module _ (frame : Frame) where
 
   abbrev pub w : Setting
   w = setting_of frame.program frame.calls
-
-  -- what is known of classes and calls
-  pub record Known : Type 0 where
-    pub listed : IsClassList g
-    pub plain : (c f : ℕ) → is_reference (field_type g c f) ≡ false
-    pub calls_fit : (n : ℕ) (f : Function) (vs : List Value) (s : State) (k : ℕ) → slice_get p.functions n ≡ Some f → is_open f ≡ false → IsTrue (frame.callable f) → IsState g s → AllFit g s.objects (argument_types g f) vs → On (Gave g f.result s) (calls n vs s k)
-    pub opens_fit : (n : ℕ) (f : Function) (vs : List Value) (s : State) (k : ℕ) → slice_get p.functions n ≡ Some f → is_open f ≡ true → IsTrue (frame.callable f) → IsState g s → AllFit g s.objects (argument_types g f) vs → On (Gave g f.result s) (call_open p calls n vs s k)
-    pub virtuals_fit : (c n : ℕ) (x : Member) (v : Value) (vs : List Value) (s : State) (k : ℕ) → IsVirtualMethod g c n x → IsState g s → Fits g s.objects (ty.Ref c) v → AllFit g s.objects (params_in x.kind) vs → On (Gave g (result_in x.kind) s) (call_virtual p calls n v vs s k)
 
   module _ (known : List ℕ) where
     abbrev pub LocalsFit : List Object → Locals → Type 0
@@ -172,7 +151,7 @@ module _ (frame : Frame) where
 
     -- ---- moves
 
-    module _ (ok : Known) where
+    module _ (ok : Known frame) where
       move_operates : (c n : ℕ) (t : Ty) (v : Value) (s : State) → class_in t ≡ Some c → IsNode g c n → IsState g s → Fits g s.objects t v → Operates g (shows t (end_of (node g c n))) s (move_along g (node g c n) v s)
       move_operates c n (ty.Ptr d) Null s e l h f = record { fits = tt; grew = grew_self s.objects; state = h }
       move_operates c n (ty.Ptr d) (At o u) s e l h f = at_node c n d o u s e l h f tt
@@ -363,7 +342,7 @@ module _ (frame : Frame) where
   fewer : (more known : List ℕ) (s : Store) → Fine (more ++ known) s → Fine known s
   fewer more known s h = record { state = h.state; locals = λ x l n. h.locals x l (λ r. Has-right more known (n r)) }
 
-  module _ (ok : Known) (result : Ty) where
+  module _ (ok : Known frame) (result : Ty) where
     -- how a statement may go on
     abbrev pub MayGo : Bool → List Object → Flow → Type 0
     MayGo in_loop xs Next = Unit {0}
