@@ -1,8 +1,8 @@
 // A merged program.
 
-ghost use Rattle.std.specs.Prelude.{◌≡◌, map};
-ghost use Rattle.mm_core.specs.Units.{Joined, IsJoined};
-ghost use Rattle.mm_core.specs.View.{function_view, program_view};
+ghost use Rattle.std.specs.Prelude.{◌≡◌};
+ghost use Rattle.mm_core.specs.Units.{IsJoined};
+ghost use Rattle.mm_program.specs.Seen.{joined_of};
 
 use mm_base::text::Text;
 use mm_core::tree::{CoreClass, CoreFn, OpenDecl};
@@ -18,8 +18,7 @@ pub struct CoreProgram {
     pub functions: Items<CoreFn>,
 }
 
-/// The program of several units. To a contract it is its files, its program, what stands beside its classes, its open-methods
-/// and its base-methods, and these keep the rules of merged programs.
+/// The program of several units: its parts keep the rules of merged programs.
 #[derive(Drop)]
 pub struct Merged {
     program: CoreProgram,
@@ -29,29 +28,36 @@ pub struct Merged {
 }
 
 impl Model for Merged {
-    ghost use Rattle.mm_core.specs.Units.{Joined, IsJoined};
-    ghost use Rattle.mm_core.specs.View.{program_view};
+    ghost use Rattle.mm_core.specs.Units.{IsJoined};
+    ghost use Rattle.mm_program.specs.Seen.{MergedSeen, joined_of};
 
-    ghost Value = { Joined };
+    ghost Value = { MergedSeen };
+
+    ghost use Rattle.mm_core.specs.contracts.tree.CoreStmt as stmt;
+    ghost use Rattle.std.specs.Coded.{codes};
+
+    ghost coded = { Prim.hlevel (codes, stmt.the_row.coded) };
 
     ghost view = {
         λ m. record {
-            files = m.names;
-            program = program_view m.program.graph m.program.functions;
-            marks = m.program.classes;
+            graph = m.program.graph;
+            classes = m.program.classes;
+            functions = m.program.functions;
             opens = m.opens;
             bases = m.bases;
+            names = m.names;
         }
     };
 
     ghost invariant = {
-        λ m. IsJoined (record {
-            files = m.names;
-            program = program_view m.program.graph m.program.functions;
-            marks = m.program.classes;
+        λ m. IsJoined (joined_of (record {
+            graph = m.program.graph;
+            classes = m.program.classes;
+            functions = m.program.functions;
             opens = m.opens;
             bases = m.bases;
-        })
+            names = m.names;
+        }))
     };
 }
 
@@ -64,21 +70,23 @@ impl Merged {
         names: Items<Text>,
     ) -> Merged
         requires {
-            IsJoined (record {
-                files = names;
-                program = program_view program.graph program.functions;
-                marks = program.classes;
+            IsJoined (joined_of (record {
+                graph = program.graph;
+                classes = program.classes;
+                functions = program.functions;
                 opens = opens;
                 bases = bases;
-            })
+                names = names;
+            }))
         }
         ensures {
             result ≡ record {
-                files = names;
-                program = program_view program.graph program.functions;
-                marks = program.classes;
+                graph = program.graph;
+                classes = program.classes;
+                functions = program.functions;
                 opens = opens;
                 bases = bases;
+                names = names;
             }
         }
     {
@@ -92,9 +100,10 @@ impl Merged {
 
     /// Its classes and functions.
     pub fn program(&self) -> &CoreProgram
-        ensures classes { result.now.graph ≡ self.now.program.classes }
-        ensures functions { map function_view result.now.functions ≡ self.now.program.functions }
-        ensures marks { result.now.classes ≡ self.now.marks }
+        ensures graph { result.now.graph ≡ self.now.graph }
+        ensures classes { result.now.classes ≡ self.now.classes }
+        ensures functions { result.now.functions ≡ self.now.functions }
+        ensures kept { IsJoined (joined_of self.now) }
     {
         &self.program
     }
@@ -115,7 +124,7 @@ impl Merged {
 
     /// The files of its units, one unit after another.
     pub fn names(&self) -> &Items<Text>
-        ensures { result.now ≡ self.now.files }
+        ensures { result.now ≡ self.now.names }
     {
         &self.names
     }

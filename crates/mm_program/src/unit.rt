@@ -1,8 +1,8 @@
 // A checked unit.
 
-ghost use Rattle.std.specs.Prelude.{◌≡◌, map};
-ghost use Rattle.mm_core.specs.Units.{Checked, IsChecked};
-ghost use Rattle.mm_core.specs.View.{function_view, program_view};
+ghost use Rattle.std.specs.Prelude.{◌≡◌};
+ghost use Rattle.mm_core.specs.Units.{IsChecked};
+ghost use Rattle.mm_program.specs.Seen.{checked_of};
 
 use mm_base::text::Text;
 use mm_core::tree::{CoreClass, CoreFn};
@@ -10,8 +10,7 @@ use mm_paths::graph::Graph;
 use sqlite_items::Items;
 use std::marker::Model;
 
-/// A unit that was checked. To a contract it is its files, its bytes, its program and what stands beside its classes, and
-/// these keep the rules of checked units.
+/// A unit that was checked: its parts keep the rules of checked units.
 #[derive(Drop)]
 pub struct CheckedUnit {
     files: Items<Text>,
@@ -22,27 +21,34 @@ pub struct CheckedUnit {
 }
 
 impl Model for CheckedUnit {
-    ghost use Rattle.mm_core.specs.Units.{Checked, IsChecked};
-    ghost use Rattle.mm_core.specs.View.{program_view};
+    ghost use Rattle.mm_core.specs.Units.{IsChecked};
+    ghost use Rattle.mm_program.specs.Seen.{UnitSeen, checked_of};
 
-    ghost Value = { Checked };
+    ghost Value = { UnitSeen };
+
+    ghost use Rattle.mm_core.specs.contracts.tree.CoreStmt as stmt;
+    ghost use Rattle.std.specs.Coded.{codes};
+
+    ghost coded = { Prim.hlevel (codes, stmt.the_row.coded) };
 
     ghost view = {
         λ u. record {
             files = u.files;
             bytes = u.bytes;
-            program = program_view u.graph u.functions;
-            marks = u.classes;
+            graph = u.graph;
+            classes = u.classes;
+            functions = u.functions;
         }
     };
 
     ghost invariant = {
-        λ u. IsChecked (record {
+        λ u. IsChecked (checked_of (record {
             files = u.files;
             bytes = u.bytes;
-            program = program_view u.graph u.functions;
-            marks = u.classes;
-        })
+            graph = u.graph;
+            classes = u.classes;
+            functions = u.functions;
+        }))
     };
 }
 
@@ -56,19 +62,21 @@ impl CheckedUnit {
         functions: Items<CoreFn>,
     ) -> CheckedUnit
         requires {
-            IsChecked (record {
+            IsChecked (checked_of (record {
                 files = files;
                 bytes = bytes;
-                program = program_view graph functions;
-                marks = classes;
-            })
+                graph = graph;
+                classes = classes;
+                functions = functions;
+            }))
         }
         ensures {
             result ≡ record {
                 files = files;
                 bytes = bytes;
-                program = program_view graph functions;
-                marks = classes;
+                graph = graph;
+                classes = classes;
+                functions = functions;
             }
         }
     {
@@ -83,7 +91,8 @@ impl CheckedUnit {
 
     /// The names of its files, its own first, then those of its headers.
     pub fn files(&self) -> &Items<Text>
-        ensures { result.now ≡ self.now.files }
+        ensures files { result.now ≡ self.now.files }
+        ensures kept { IsChecked (checked_of self.now) }
     {
         &self.files
     }
@@ -97,21 +106,21 @@ impl CheckedUnit {
 
     /// Its classes.
     pub fn graph(&self) -> &Graph
-        ensures { result.now ≡ self.now.program.classes }
+        ensures { result.now ≡ self.now.graph }
     {
         &self.graph
     }
 
     /// What stands beside its classes, by their numbers.
     pub fn classes(&self) -> &Items<CoreClass>
-        ensures { result.now ≡ self.now.marks }
+        ensures { result.now ≡ self.now.classes }
     {
         &self.classes
     }
 
     /// Its functions, by their numbers.
     pub fn functions(&self) -> &Items<CoreFn>
-        ensures { map function_view result.now ≡ self.now.program.functions }
+        ensures { result.now ≡ self.now.functions }
     {
         &self.functions
     }
