@@ -1,5 +1,6 @@
--- How deep the tree of a body is, and how long the longest list in it, counted as a record of the unit counts its nodes: a
--- block under `if` or a loop is a node, and so is the field whose value `compound` changes. (Own.)
+-- How deep the tree of a body is, and how long the longest list in it, counted as a record of the
+-- unit counts its nodes: a block under `if` or a loop is a node, and so is the field whose value
+-- `compound` changes. (Own.)
 use Rattle.std.specs.Prelude.{ℕ, suc, max}
 use Rattle.mm_core.specs.Tree.{Expr, int, unsigned, bool, null, local, set_local, field, set_field, not_null, move, convert, binary, negation, both, either, choose, call, virtual_call, open_call, builtin, new, step_local, step_field, compound, Exprs, no_exprs, expr_and, Stmt, block, run, if_else, while_do, do_while, for_do, break, continue, return_nothing, return, make, Stmts, no_stmts, stmt_and}
 

@@ -1,4 +1,5 @@
--- What a checked unit is and keeps, and what a merged program is and keeps. (Own; on names ISO/IEC 14882, 2.10.)
+-- What a checked unit is and keeps, and what a merged program is and keeps. (Own; on names ISO/IEC
+-- 14882, 2.10.)
 use Rattle.std.specs.Prelude.{◌≡◌, ◌≢◌, ◌↔◌, ℕ, ◌+◌, ◌<◌, ◌≤◌, ◌^◌, Bool, true, not, ◌&&◌, IsTrue, List, length, map, take, All, AllPairs, Option, None, Some, codes, slice_get}
 use Rattle.std.specs.Str.{bytes_eq}
 use Rattle.mm_classes.specs.declared.class.Member.{Member}
@@ -16,16 +17,17 @@ use Rattle.mm_core.specs.Valid.{IsDestructor}
 use Rattle.mm_core.specs.ValidProgram.{IsValidUnit, IsMerged}
 use Rattle.mm_core.specs.Sizes.{stmt_depth, stmt_width}
 
--- A checked unit: its files, its own first; how many bytes its text has with its headers; its program; and beside each
--- class where it was first named, with its tokens joined by blanks (none of a class that is only declared).
+-- A checked unit: its files, its own first; how many bytes its text has with its headers; its
+-- program; and beside each class where it was first named, with its tokens joined by blanks (none
+-- of a class that is only declared).
 pub record Checked : Type 0 where
   pub files : List (List ℕ)
   pub bytes : ℕ
   pub program : Program
   pub marks : List CoreClass
 
--- A merged program: the files of its units stand one unit after another. `bases` are the places of the base-methods among
--- the open-methods.
+-- A merged program: the files of its units stand one unit after another. `bases` are the places of
+-- the base-methods among the open-methods.
 pub record Joined : Type 0 where
   pub files : List (List ℕ)
   pub program : Program
@@ -35,8 +37,8 @@ pub record Joined : Type 0 where
 
 -- ---- names and places
 
--- A name that a program declares: it has bytes, no colon among them, and not `mm_` at its front. (That it is an identifier
--- is asked where texts and records are read.)
+-- A name that a program declares: it has bytes, no colon among them, and not `mm_` at its front.
+-- (That it is an identifier is asked where texts and records are read.)
 abbrev pub is_name : List ℕ → Bool
 is_name n = is_some_of n && (not (has n 58) && not (bytes_eq (take 3 n) (codes "mm_")))
 
@@ -113,9 +115,12 @@ open_decl_of d = record {
 -- at each of these places stands an element, one after another in an order
 pub record AreBases (p : Program) (bases : List ℕ) : Type 0 where
   -- exactly the base-methods stand at these places
-  pub are : (d : Declared) → Has (base_methods p.classes (opens_of p)) d ↔ ((b : ℕ) × Has bases b × (slice_get (opens_of p) b ≡ Some d))
+  pub are : (d : Declared) →
+      Has (base_methods p.classes (opens_of p)) d ↔
+      ((b : ℕ) × Has bases b × (slice_get (opens_of p) b ≡ Some d))
   pub inside : All (λ b. b < length (opens_of p)) bases
-  pub ordered : AllPairs (λ b c. (d e : Declared) → slice_get (opens_of p) b ≡ Some d → slice_get (opens_of p) c ≡ Some e → IsTrue (declared_before p.classes d e)) bases
+  pub ordered : AllPairs (λ b c. (d e : Declared) → slice_get (opens_of p) b ≡ Some d →
+      slice_get (opens_of p) c ≡ Some e → IsTrue (declared_before p.classes d e)) bases
 
 pub record IsJoined (m : Joined) : Type 0 where
   pub valid : IsMerged m.program

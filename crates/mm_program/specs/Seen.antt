@@ -1,4 +1,5 @@
--- What a contract sees of a checked unit and of a merged program: their parts as they stand in memory. (Own.)
+-- What a contract sees of a checked unit and of a merged program: their parts as they stand in
+-- memory. (Own.)
 use Rattle.std.specs.Prelude.{ℕ, List}
 use Rattle.mm_classes.specs.Classes.{Class}
 use Rattle.mm_core.specs.declared.tree.CoreClass.{CoreClass}
@@ -16,7 +17,12 @@ pub record UnitSeen : Type 0 where
 
 -- the unit that it is
 abbrev pub checked_of : UnitSeen → Checked
-checked_of u = record { files = u.files; bytes = u.bytes; program = program_view u.graph u.functions; marks = u.classes }
+checked_of u = record {
+  files = u.files;
+  bytes = u.bytes;
+  program = program_view u.graph u.functions;
+  marks = u.classes;
+}
 
 pub record MergedSeen : Type 0 where
   pub graph : List Class
@@ -28,4 +34,10 @@ pub record MergedSeen : Type 0 where
 
 -- the program that it is
 abbrev pub joined_of : MergedSeen → Joined
-joined_of m = record { files = m.names; program = program_view m.graph m.functions; marks = m.classes; opens = m.opens; bases = m.bases }
+joined_of m = record {
+  files = m.names;
+  program = program_view m.graph m.functions;
+  marks = m.classes;
+  opens = m.opens;
+  bases = m.bases;
+}

@@ -38,27 +38,23 @@ impl Model for Merged {
 
     ghost coded = { Prim.hlevel (codes, stmt.the_row.coded) };
 
-    ghost view = {
-        λ m. record {
-            graph = m.program.graph;
-            classes = m.program.classes;
-            functions = m.program.functions;
-            opens = m.opens;
-            bases = m.bases;
-            names = m.names;
-        }
-    };
+    ghost view = { λ m. record {
+      graph = m.program.graph;
+      classes = m.program.classes;
+      functions = m.program.functions;
+      opens = m.opens;
+      bases = m.bases;
+      names = m.names;
+    } };
 
-    ghost invariant = {
-        λ m. IsJoined (joined_of (record {
-            graph = m.program.graph;
-            classes = m.program.classes;
-            functions = m.program.functions;
-            opens = m.opens;
-            bases = m.bases;
-            names = m.names;
-        }))
-    };
+    ghost invariant = { λ m. IsJoined (joined_of (record {
+      graph = m.program.graph;
+      classes = m.program.classes;
+      functions = m.program.functions;
+      opens = m.opens;
+      bases = m.bases;
+      names = m.names;
+    })) };
 }
 
 impl Merged {
@@ -69,26 +65,22 @@ impl Merged {
         bases: Items<u32>,
         names: Items<Text>,
     ) -> Merged
-        requires {
-            IsJoined (joined_of (record {
-                graph = program.graph;
-                classes = program.classes;
-                functions = program.functions;
-                opens = opens;
-                bases = bases;
-                names = names;
-            }))
-        }
-        ensures {
-            result ≡ record {
-                graph = program.graph;
-                classes = program.classes;
-                functions = program.functions;
-                opens = opens;
-                bases = bases;
-                names = names;
-            }
-        }
+        requires { IsJoined (joined_of (record {
+          graph = program.graph;
+          classes = program.classes;
+          functions = program.functions;
+          opens = opens;
+          bases = bases;
+          names = names;
+        })) }
+        ensures { result ≡ record {
+          graph = program.graph;
+          classes = program.classes;
+          functions = program.functions;
+          opens = opens;
+          bases = bases;
+          names = names;
+        } }
     {
         Merged {
             program,

@@ -31,25 +31,21 @@ impl Model for CheckedUnit {
 
     ghost coded = { Prim.hlevel (codes, stmt.the_row.coded) };
 
-    ghost view = {
-        λ u. record {
-            files = u.files;
-            bytes = u.bytes;
-            graph = u.graph;
-            classes = u.classes;
-            functions = u.functions;
-        }
-    };
+    ghost view = { λ u. record {
+      files = u.files;
+      bytes = u.bytes;
+      graph = u.graph;
+      classes = u.classes;
+      functions = u.functions;
+    } };
 
-    ghost invariant = {
-        λ u. IsChecked (checked_of (record {
-            files = u.files;
-            bytes = u.bytes;
-            graph = u.graph;
-            classes = u.classes;
-            functions = u.functions;
-        }))
-    };
+    ghost invariant = { λ u. IsChecked (checked_of (record {
+      files = u.files;
+      bytes = u.bytes;
+      graph = u.graph;
+      classes = u.classes;
+      functions = u.functions;
+    })) };
 }
 
 impl CheckedUnit {
@@ -61,24 +57,20 @@ impl CheckedUnit {
         classes: Items<CoreClass>,
         functions: Items<CoreFn>,
     ) -> CheckedUnit
-        requires {
-            IsChecked (checked_of (record {
-                files = files;
-                bytes = bytes;
-                graph = graph;
-                classes = classes;
-                functions = functions;
-            }))
-        }
-        ensures {
-            result ≡ record {
-                files = files;
-                bytes = bytes;
-                graph = graph;
-                classes = classes;
-                functions = functions;
-            }
-        }
+        requires { IsChecked (checked_of (record {
+          files = files;
+          bytes = bytes;
+          graph = graph;
+          classes = classes;
+          functions = functions;
+        })) }
+        ensures { result ≡ record {
+          files = files;
+          bytes = bytes;
+          graph = graph;
+          classes = classes;
+          functions = functions;
+        } }
     {
         CheckedUnit {
             files,
