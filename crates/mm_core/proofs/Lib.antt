@@ -12,6 +12,7 @@ pub mod Scalars
 pub mod Heap
 pub mod Sound
 pub mod SoundCalls
+pub mod Returning
 pub mod Sets
 pub mod Overriding
 pub mod Longer
