@@ -13,6 +13,7 @@ pub mod Heap
 pub mod Sound
 pub mod SoundCalls
 pub mod Returning
+pub mod Entering
 pub mod Sets
 pub mod Overriding
 pub mod Longer
