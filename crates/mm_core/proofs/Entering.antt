@@ -21,14 +21,15 @@ use Rattle.mm_classes.proofs.Compose.{compose-end}
 use Rattle.mm_classes.proofs.Deriving.{sub_derives}
 use Rattle.mm_core.specs.Tree.{Function, Program}
 use Rattle.mm_core.specs.Heads.{type_code, same_types, params_in, result_in, same_function, types_of_params, function_of, owner_of, this_of, argument_types}
-use Rattle.mm_core.specs.State.{Value, Truth, Number, Word, Null, At, Nothing, State, class_of, on_some, or_trap, settled}
+use Rattle.mm_core.specs.State.{Value, Truth, Number, Word, Null, At, Nothing, State, Stop, class_of, or_trap, settled, at_once}
 use Rattle.mm_core.specs.Finals.{final_of}
+use Rattle.mm_core.specs.Moves.{result_back}
 use Rattle.mm_core.specs.Virtual.{Calls, Entry, result_of_entry, entered, declared_in, virtual_entry, call_virtual}
 use Rattle.mm_core.specs.Valid.{IsVirtualIn, IsDestructor, IsVirtualMethod}
 use Rattle.mm_core.specs.ValidProgram.{IsFunctionOf, IsValidClass, IsMerged}
 use Rattle.mm_core.specs.Units.{is_name, AreNamed}
 use Rattle.mm_core.specs.Dispatch.{is_covariant}
-use Rattle.mm_core.specs.Fits.{Shows, Fits, AllFit, IsState}
+use Rattle.mm_core.specs.Fits.{Shows, Fits, AllFit, Grew, IsState}
 use Rattle.mm_core.specs.Keeps.{On, Gave}
 use Rattle.mm_core.specs.Relations.{IsOverrider}
 use Rattle.mm_core.proofs.Heap.{grew_on, either_way, Operates}
@@ -243,3 +244,48 @@ module _ (p : Program) (merged : IsMerged p) (named : AreNamed p) where
         let over = top.0 in
         let m = find_has (same_function x) (members_of g (end_of u.0)) over.2 in
         found_at u.0 m.0 u.1 over.0 (over_part u.0 over.0 over.1.0 over.1.1 over.1.2) m.1 m.2 m.3
+
+  -- ---- calls
+
+  -- calls of what is defined, by number, give what fits
+  abbrev pub CallsFit : Calls → Type 0
+  CallsFit calls = (n : ℕ) (f : Function) (vs : List Value) (s : State) (k : ℕ) → slice_get p.functions n ≡ Some f → IsTrue f.defined → IsState g s → AllFit g s.objects (argument_types g f) vs → On (Gave g f.result s) (calls n vs s k)
+
+  settles_as : (t : Ty) (s m : State) (r : Result (Value × State) Trap) (k : ℕ) → Grew s.objects m.objects → Operates g t m r → On (Gave g t s) (settled r m k)
+  settles_as t s m (Ok r) k gr h = record { fits = h.fits; grew = grew_on s.objects m.objects r.1.objects gr h.grew; state = h.state }
+  settles_as t s m (Err x) k gr h = tt
+
+  module _ (calls : Calls) (fit : CallsFit calls) where
+    moved_back : (r o : Ty) (s : State) (x : Run Stop State Value) → (r ≡ o) ⊎ (is_covariant g r o ≡ true) → On (Gave g r s) x → On (Gave g o s) (runs.then x (λ v. at_once (result_back g r o v)))
+    moved_back r o s (Gives v m k) c h = settles_as o s m (result_back g r o v m) k h.grew (back_fits g ok r o v m c h.fits h.state)
+    moved_back r o s (Stops x m) c h = tt
+
+    -- what is entered on arguments of its types gives what fits, moved back
+    pub entered_fits : (e : Entry) (f : Function) (s : State) (k : ℕ) → slice_get p.functions e.function ≡ Some f → IsTrue f.defined → IsState g s → AllFit g s.objects (argument_types g f) e.arguments → (f.result ≡ e.declared) ⊎ (is_covariant g f.result e.declared ≡ true) → On (Gave g e.declared s) (entered p calls e s k)
+    entered_fits e f s k at d h args c =
+        subst (λ o. On (Gave g e.declared s) (runs.then (calls e.function e.arguments s k) (λ v. at_once (result_back g (result_of_entry o) e.declared v)))) (sym at)
+        (moved_back f.result e.declared s (calls e.function e.arguments s k) c (fit e.function f e.arguments s k at d h args))
+
+    member_arguments : (f : Function) (e : ℕ) (ts : List Ty) → IsTrue f.member → owner_of g f ≡ Some e → types_of_params f.params ≡ ts → argument_types g f ≡ ty.Ref e ∷ ts
+    member_arguments f e ts m o q = rw (m, o, q) refl
+
+    virtual_at : (c n : ℕ) (x : Member) (o : ℕ) (t : Path) (vs : List Value) (s : State) (k : ℕ) → IsVirtualMethod g c n x → IsState g s → Shows g s.objects c o t → AllFit g s.objects (params_in x.kind) vs → On (Gave g (result_in x.kind) s) (call_virtual p calls n (At o t) vs s k)
+    virtual_at c n x o t vs s k method h f args =
+        let d = class_of s.objects o in
+        let w : Found d t c x = found d t c n x f.part f.ends method in
+        let e : Entry = record { function = w.number; arguments = At o w.part ∷ vs; declared = result_in x.kind } in
+        let shows : Shows g s.objects (end_of w.part) o w.part = record { there = f.there; part = w.is_part; ends = refl } in
+        let types = member_arguments w.function (end_of w.part) (params_in x.kind) w.of_member.member w.of_member.owner (w.of_member.params ∙ w.params) in
+        subst (λ r. On (Gave g (result_in x.kind) s) (runs.then (or_trap r s k) (entered p calls))) (sym (entry_is w (subst (λ z. slice_get (members_of g z) n ≡ Some x) (sym f.ends) method.0)))
+        (entered_fits e w.function s k w.of_member.there w.defined h (subst (λ ts. AllFit g s.objects ts (At o w.part ∷ vs)) (sym types) (shows, args)) (subst (λ r. (r ≡ result_in x.kind) ⊎ (is_covariant g r (result_in x.kind) ≡ true)) (sym w.of_member.result) w.result))
+      where
+        entry_is : (w : Found (class_of s.objects o) t c x) → slice_get (members_of g (end_of t)) n ≡ Some x → virtual_entry p n (At o t) vs s ≡ Ok (record { function = w.number; arguments = At o w.part ∷ vs; declared = result_in x.kind })
+        entry_is w e = rw e (rw w.final (rw w.declared refl))
+
+    pub virtual_fits : (c n : ℕ) (x : Member) (v : Value) (vs : List Value) (s : State) (k : ℕ) → IsVirtualMethod g c n x → IsState g s → Fits g s.objects (ty.Ref c) v → AllFit g s.objects (params_in x.kind) vs → On (Gave g (result_in x.kind) s) (call_virtual p calls n v vs s k)
+    virtual_fits c n x (At o t) vs s k method h f args = virtual_at c n x o t vs s k method h f args
+    virtual_fits c n x Null vs s k method h f args = absurd f
+    virtual_fits c n x Nothing vs s k method h f args = absurd f
+    virtual_fits c n x (Truth b) vs s k method h f args = absurd f
+    virtual_fits c n x (Number z) vs s k method h f args = absurd f
+    virtual_fits c n x (Word z) vs s k method h f args = absurd f
