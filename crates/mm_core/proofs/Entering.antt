@@ -116,7 +116,7 @@ one_member ms apart m x h k e =
 
 module _ (g : List Class) (ok : IsClassList g) where
   -- what has members, or bases, is complete
-  members_complete : (c : ℕ) (m : Member) → Has (members_of g c) m → IsComplete g c
+  pub members_complete : (c : ℕ) (m : Member) → Has (members_of g c) m → IsComplete g c
   members_complete c m h = elim (either_way (class_at g c).complete) [
     | inl e ↦ (complete_below g c e, e)
     | inr e ↦ absurd (none (members_of g c) (ok.bare c e).1 h)
