@@ -136,7 +136,7 @@ module _ (g : List Class) (ok : IsClassList g) where
       none [] e k = elim k [ ]
       none (y ∷ ys) e k = cc
 
-  derives_complete : (c b : ℕ) → Derives g c b → IsComplete g c
+  pub derives_complete : (c b : ℕ) → Derives g c b → IsComplete g c
   derives_complete c b (direct x h e) = bases_complete c x h
   derives_complete c b (through x h d) = bases_complete c x h
 

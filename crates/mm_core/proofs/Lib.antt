@@ -14,6 +14,7 @@ pub mod Sound
 pub mod SoundCalls
 pub mod Returning
 pub mod Entering
+pub mod Opening
 pub mod Whole
 pub mod Sets
 pub mod Overriding
