@@ -15,6 +15,7 @@ pub mod SoundCalls
 pub mod Returning
 pub mod Entering
 pub mod Opening
+pub mod Aligned
 pub mod Whole
 pub mod Sets
 pub mod Overriding
