@@ -16,6 +16,7 @@ pub mod Returning
 pub mod Entering
 pub mod Opening
 pub mod Aligned
+pub mod Opened
 pub mod Whole
 pub mod Sets
 pub mod Overriding

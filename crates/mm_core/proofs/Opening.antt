@@ -18,7 +18,7 @@ use Rattle.mm_core.proofs.Overriding.{orders}
 -- ---- lists
 
 module _ {X : Type 0} where
-  first_by_has : (before : X → X → Bool) (x : X) (ys : List X) → Has (x ∷ ys) (first_by before x ys)
+  pub first_by_has : (before : X → X → Bool) (x : X) (ys : List X) → Has (x ∷ ys) (first_by before x ys)
   first_by_has before x [] = first refl
   first_by_has before x (y ∷ ys) = chosen (before y x) (first_by_has before (if before y x then y else x) ys)
     where
