@@ -1,6 +1,6 @@
 -- The arguments of a call of an open-method, at the parameters of the winner, fit its types.
 use Rattle.std.proofs.Common.{◌≡◌, ℕ, ◌<◌, List, [], ◌∷◌, length, refl, sym, subst, ap, ◌∙◌, inl, inr}
-use Rattle.std.specs.Prelude.{◌⊎◌, Bool, true, false, ◌&&◌, IsTrue, filter, filter_map, if◌then◌else◌, Option, Some, None, Result, Ok, Err}
+use Rattle.std.specs.Prelude.{◌⊎◌, Bool, true, false, ◌&&◌, filter, filter_map, if◌then◌else◌, Option, Some, None, Result, Ok, Err}
 use Rattle.std.specs.Bool.{beq}
 use Rattle.std.specs.List.{list_all}
 use Rattle.mm_base.specs.declared.num.Trap.{Trap}
@@ -184,15 +184,15 @@ module _ (g : List Class) (ok : IsClassList g) (xs : List Object) where
   align (q ∷ qs) (b ∷ bs) (u ∷ us) (v ∷ vs) f l m k =
       let rest = align qs bs us vs f.1 l.1 m.1 (λ x h. k x (later h)) in
       elim l.0 [
-      | inl a ↦ elim m.0 [
-        | inl d ↦ (let c = pointer_of q.ty b.ty a.2 in let e = pointer_too q.ty b.ty a.2 in let w = pointer_of u.ty b.ty d.2 in
-            rw (values_true q qs v vs a.0, cls_true q qs c.0 a.0 (class_is q.ty c.0 c.1), cls_true b bs e.0 a.1 (class_is b.ty e.0 e.1), cls_true u us w.0 d.0 (class_is u.ty w.0 w.1))
-            (value_step v c.0 e.0 w.0 (virtual_values qs vs) (cls qs) (cls bs) (cls us) (as_shown q.ty c.0 v c.1 f.0) (subst (IsComplete g) (shown_is q.ty c.0 c.1) (k q (first refl) a.0)) rest))
-        | inr d ↦ absurd (let z : true ≡ false = sym a.1 ∙ d.1 in let y : ⊥ = cc in y)
+        | inl a ↦ elim m.0 [
+          | inl d ↦ (let c = pointer_of q.ty b.ty a.2 in let e = pointer_too q.ty b.ty a.2 in let w = pointer_of u.ty b.ty d.2 in
+              rw (values_true q qs v vs a.0, cls_true q qs c.0 a.0 (class_is q.ty c.0 c.1), cls_true b bs e.0 a.1 (class_is b.ty e.0 e.1), cls_true u us w.0 d.0 (class_is u.ty w.0 w.1))
+              (value_step v c.0 e.0 w.0 (virtual_values qs vs) (cls qs) (cls bs) (cls us) (as_shown q.ty c.0 v c.1 f.0) (subst (IsComplete g) (shown_is q.ty c.0 c.1) (k q (first refl) a.0)) rest))
+          | inr d ↦ absurd (let z : true ≡ false = sym a.1 ∙ d.1 in let y : ⊥ = cc in y)
         ]
-      | inr a ↦ elim m.0 [
-        | inl d ↦ absurd (let z : true ≡ false = sym d.1 ∙ a.1 in let y : ⊥ = cc in y)
-        | inr d ↦ rw (values_false q qs v vs a.0, cls_false q qs a.0, cls_false b bs a.1, cls_false u us d.0) rest
+        | inr a ↦ elim m.0 [
+          | inl d ↦ absurd (let z : true ≡ false = sym d.1 ∙ a.1 in let y : ⊥ = cc in y)
+          | inr d ↦ rw (values_false q qs v vs a.0, cls_false q qs a.0, cls_false b bs a.1, cls_false u us d.0) rest
         ]
       ]
 
@@ -264,15 +264,15 @@ module _ (g : List Class) (ok : IsClassList g) (xs : List Object) where
   arguments_fit (q ∷ qs) (b ∷ bs) (u ∷ us) (v ∷ vs) ts f l m h =
       let rest : (ts : List (Option Path)) → Good (virtual_values qs vs) (cls us) ts → AllFit g xs (types_of_params us) (with_virtuals qs vs (shown (virtual_values qs vs) ts)) = λ ts i. arguments_fit qs bs us vs ts f.1 l.1 m.1 i in
       elim l.0 [
-      | inl a ↦ elim m.0 [
-        | inl d ↦ (let w = pointer_of u.ty b.ty d.2 in
-            let i : Good (v ∷ virtual_values qs vs) (w.0 ∷ cls us) ts = subst (λ z. Good (v ∷ virtual_values qs vs) z ts) (cls_true u us w.0 d.0 (class_is u.ty w.0 w.1)) (subst (λ z. Good z (cls (u ∷ us)) ts) (values_true q qs v vs a.0) h) in
-            rw (values_true q qs v vs a.0) (virtual_step q u qs us v vs w.0 (cls us) (virtual_values qs vs) ts a.0 w.1 i rest))
-        | inr d ↦ absurd (let z : true ≡ false = sym a.1 ∙ d.1 in let y : ⊥ = cc in y)
+        | inl a ↦ elim m.0 [
+          | inl d ↦ (let w = pointer_of u.ty b.ty d.2 in
+              let i : Good (v ∷ virtual_values qs vs) (w.0 ∷ cls us) ts = subst (λ z. Good (v ∷ virtual_values qs vs) z ts) (cls_true u us w.0 d.0 (class_is u.ty w.0 w.1)) (subst (λ z. Good z (cls (u ∷ us)) ts) (values_true q qs v vs a.0) h) in
+              rw (values_true q qs v vs a.0) (virtual_step q u qs us v vs w.0 (cls us) (virtual_values qs vs) ts a.0 w.1 i rest))
+          | inr d ↦ absurd (let z : true ≡ false = sym a.1 ∙ d.1 in let y : ⊥ = cc in y)
         ]
-      | inr a ↦ elim m.0 [
-        | inl d ↦ absurd (let z : true ≡ false = sym d.1 ∙ a.1 in let y : ⊥ = cc in y)
-        | inr d ↦ (let i : Good (virtual_values qs vs) (cls us) ts = subst (λ z. Good (virtual_values qs vs) z ts) (cls_false u us d.0) (subst (λ z. Good z (cls (u ∷ us)) ts) (values_false q qs v vs a.0) h) in
-            rw (values_false q qs v vs a.0, with_false q qs v vs (shown (virtual_values qs vs) ts) a.0) (subst (λ t. Fits g xs t v) (a.2 ∙ sym d.2) f.0, rest ts i))
+        | inr a ↦ elim m.0 [
+          | inl d ↦ absurd (let z : true ≡ false = sym d.1 ∙ a.1 in let y : ⊥ = cc in y)
+          | inr d ↦ (let i : Good (virtual_values qs vs) (cls us) ts = subst (λ z. Good (virtual_values qs vs) z ts) (cls_false u us d.0) (subst (λ z. Good z (cls (u ∷ us)) ts) (values_false q qs v vs a.0) h) in
+              rw (values_false q qs v vs a.0, with_false q qs v vs (shown (virtual_values qs vs) ts) a.0) (subst (λ t. Fits g xs t v) (a.2 ∙ sym d.2) f.0, rest ts i))
         ]
       ]

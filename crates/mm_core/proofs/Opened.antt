@@ -1,7 +1,7 @@
 -- What calls of open-methods give fits, where what functions give does and no open-method has a fault.
 use Rattle.std.proofs.Common.{◌≡◌, ℕ, zero, suc, ◌+◌, List, [], ◌∷◌, refl, sym, subst, ap, ◌∙◌, inl, inr, arith}
-use Rattle.std.specs.Prelude.{◌⊎◌, Bool, true, false, not, ◌&&◌, IsTrue, cond, filter, if◌then◌else◌, Option, Some, None, Result, Ok, Err, slice_get, nat_eq}
-use Rattle.std.specs.List.{list_any, list_all}
+use Rattle.std.specs.Prelude.{◌⊎◌, Bool, true, false, not, ◌&&◌, IsTrue, filter, if◌then◌else◌, Option, Some, None, Result, Ok, Err, slice_get, nat_eq}
+use Rattle.std.specs.List.{list_any}
 use Rattle.std.specs.Str.{bytes_eq}
 use Rattle.std.proofs.lemmas.Bool.{eq-eqb, eqb-true}
 use Rattle.mm_base.specs.declared.num.Trap.{Trap}
@@ -9,17 +9,16 @@ use Rattle.mm_meaning.specs.Run as runs
 use Rattle.mm_classes.specs.declared.class.Ty.{Ty}
 use Rattle.mm_classes.specs.declared.class.Ty.TheVariants as ty
 use Rattle.mm_classes.specs.Lists.{Has, first, later}
-use Rattle.mm_classes.specs.Classes.{Class, IsClassList}
+use Rattle.mm_classes.specs.Classes.{Class}
 use Rattle.mm_core.specs.declared.part.CoreParam.{CoreParam}
 use Rattle.mm_core.specs.Tree.{Function, Program}
-use Rattle.mm_core.specs.Sets.{is_some_of}
 use Rattle.mm_core.specs.Heads.{same_types, types_of_params, is_open, argument_types}
 use Rattle.mm_core.specs.State.{Value, State, on_some, or_trap}
 use Rattle.mm_core.specs.Families.{overrides, params_override, Declared, opens_from, opens_of, over, base_methods, family_of, classes_of}
 use Rattle.mm_core.specs.Ordering.{declared_before}
-use Rattle.mm_core.specs.Dispatch.{Row, Reason, is_viable, is_covariant, parts_at, winner_of}
+use Rattle.mm_core.specs.Dispatch.{Row, Reason, is_viable, is_covariant, winner_of}
 use Rattle.mm_core.specs.Virtual.{Calls, Entry, entered}
-use Rattle.mm_core.specs.Open.{first_of, first_base, first_ways, virtual_values, rows_of, raised, won, entry_at, if_rows, open_entry, call_open}
+use Rattle.mm_core.specs.Open.{first_of, first_base, first_ways, virtual_values, rows_of, raised, won, if_rows, open_entry, call_open}
 use Rattle.mm_core.specs.Valid.{is_pointer}
 use Rattle.mm_core.specs.ValidProgram.{IsMerged, IsResolved}
 use Rattle.mm_core.specs.Units.{AreNamed}
@@ -29,7 +28,7 @@ use Rattle.mm_core.proofs.Heap.{either_way}
 use Rattle.mm_core.proofs.Sets.{and_is, filter-from, filter-has}
 use Rattle.mm_core.proofs.Entering.{slice-Has, CallsFit, entered_fits}
 use Rattle.mm_core.proofs.Opening.{first_by_has, ResultOver, winner_over}
-use Rattle.mm_core.proofs.Aligned.{LikeType, LikeParam, Like, overrides_like, Along, align, AreWhole, good, arguments_fit}
+use Rattle.mm_core.proofs.Aligned.{LikeType, LikeParam, Like, overrides_like, align, AreWhole, good, arguments_fit}
 
 -- ---- open-methods by number
 

@@ -1,18 +1,14 @@
 -- What calls of open-methods give fits, where what functions give does and no open-method has a fault.
-use Rattle.std.proofs.Common.{◌≡◌, ℕ, zero, suc, ◌+◌, ◌<◌, ◌≤◌, List, [], ◌∷◌, ◌++◌, map, refl, sym, subst, ap, ◌∙◌, inl, inr, arith}
-use Rattle.std.specs.Prelude.{◌⊎◌, Bool, true, false, not, ◌&&◌, ◌||◌, IsTrue, cond, filter, filter_map, if◌then◌else◌, Option, Some, None, Result, Ok, Err, slice_get, nat_eq}
+use Rattle.std.proofs.Common.{◌≡◌, ℕ, zero, suc, ◌<◌, ◌≤◌, List, [], ◌∷◌, refl, sym, subst, ap, ◌∙◌, inl, inr, arith}
+use Rattle.std.specs.Prelude.{◌⊎◌, Bool, true, false, not, IsTrue, cond, if◌then◌else◌, Some}
 use Rattle.std.specs.List.{list_any, list_all}
-use Rattle.mm_classes.specs.declared.class.Ty.{Ty}
-use Rattle.mm_classes.specs.declared.class.Ty.TheVariants as ty
 use Rattle.mm_classes.specs.Lists.{Has, first, later}
 use Rattle.mm_classes.specs.Classes.{Class, IsClassList}
-use Rattle.mm_core.specs.declared.part.CoreParam.{CoreParam}
-use Rattle.mm_core.specs.Tree.{Function, Program}
 use Rattle.mm_core.specs.Families.{Declared, over, least_overridden}
 use Rattle.mm_core.specs.Ordering.{first_by, names_before}
 use Rattle.mm_core.specs.Dispatch.{Reason, is_covariant, fitting, tied, decided, winner_among}
 use Rattle.mm_core.proofs.Heap.{either_way}
-use Rattle.mm_core.proofs.Sets.{and_is, filter-from, filter-has, any-from, any-has}
+use Rattle.mm_core.proofs.Sets.{and_is, filter-from, filter-has, any-from}
 use Rattle.mm_core.proofs.Overriding.{orders}
 
 -- ---- lists
