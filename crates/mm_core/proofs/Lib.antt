@@ -3,6 +3,7 @@ pub mod Written
 mod Rows
 mod Dispatched
 mod Accepted
+mod Meets
 mod Shapes
 mod Quiet
 pub mod Related

@@ -9,7 +9,7 @@ use Rattle.mm_core.specs.Tree.{Expr, int, unsigned, bool, local, set_local, conv
 use Rattle.mm_core.specs.Run.{Outcome, Ended, TrappedBy, GoesOn, source_run}
 use Rattle.mm_core.proofs.Written.{args, stmts, put, get, named, main_of, plain, gives}
 
-abbrev of : List Function → Program
+abbrev pub of : List Function → Program
 of fs = record { classes = []; functions = fs }
 
 abbrev ended : List ℤ → ℤ → Outcome
@@ -25,7 +25,7 @@ abbrev zero : Expr
 zero = int (pos 0)
 
 -- int main() { mm_put(1 + 2); return 0; }
-abbrev sum : Program
+abbrev pub sum : Program
 sum = of (main_of [] (put (binary Add (int (pos 1)) (int (pos 2))) ∷ return zero ∷ []) ∷ [])
 
 sum_is : source_run sum [] 1000000 ≡ ended (pos 3 ∷ []) (pos 0)
