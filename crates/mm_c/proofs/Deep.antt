@@ -21,7 +21,7 @@ use Rattle.mm_c.specs.declared.tree.CLocal.{CLocal}
 use Rattle.mm_c.specs.Tree.{Stmt, assign, store, run, if_only, if_else, forever, break, continue, leave, return, Block, block, Code, done, do_then, Function, Program}
 use Rattle.mm_c.specs.Memory as memory
 use Rattle.mm_c.specs.WellFormed.{is_inline}
-use Rattle.mm_c.specs.CMeaning.{Stop, Trapped, Spent, Stuck, State, Names, Store, From, or_stuck, Around, value_in, target_in, at_index, long_of, index_of, as_index, reads, set_name, zero_all, outside, stored, store_at, values_of, atoms_in, Flow, Next, Broke, Continued, Returned, unless_left, next_turn, if_zero, turns, called, call_of, gives, right_of, flow_of, flow_in, flows_of, returned_as, left_by, end_of, body_of, enter, given, no_names, answered, ask, trap, allocate, ints_in, Given, asks, traps, allocates, given_call, Callee, prelude, defined, callee_of, Steps, plain_callee, plain_calls, any_callee, all_calls, around_of, around_all, steps_of, now}
+use Rattle.mm_c.specs.CMeaning.{Stop, Trapped, Spent, Stuck, State, Names, Store, From, or_stuck, Around, value_in, target_in, at_index, long_of, index_of, as_index, reads, set_name, zero_all, outside, stored, store_at, values_of, atoms_in, Flow, Next, Broke, Continued, Returned, unless_left, next_turn, if_zero, turns, called, call_of, gives, right_of, flow_of, flow_in, flows_of, returned_as, left_by, end_of, body_of, enter, given, with_kinds, no_names, no_kinds, answered, ask, trap, allocate, ints_in, Given, asks, traps, allocates, given_call, Callee, prelude, defined, callee_of, Steps, plain_callee, plain_calls, any_callee, all_calls, around_of, around_all, steps_of, now}
 
 module _ (S A : Type 0) where
   same_or_stuck : {c : ℕ} (o : Option A) → Same {S = S} c (or_stuck o) (or_stuck o)
@@ -30,7 +30,7 @@ module _ (S A : Type 0) where
 
 module _ {A : Type 0} where
   same_outside : {c : ℕ} {m m' : From State A} → Same c m m' → Same c (outside m) (outside m')
-  same_outside {m} {m'} h = record { by = λ s k le. let r = h.by s.state k le in within_same (λ t. record { names = s.names; state = t }) k (m s.state k) (m' s.state k) r.0 r.1 }
+  same_outside {m} {m'} h = record { by = λ s k le. let r = h.by s.state k le in within_same (λ t. record { names = s.names; kinds = s.kinds; state = t }) k (m s.state k) (m' s.state k) r.0 r.1 }
 
 same_reads : {c : ℕ} (a : CAtom) → Same c (reads a) (reads a)
 same_reads a = record { by = λ s k le. (refl, omega arith) }
@@ -167,8 +167,8 @@ body_same : (c : ℕ) (m m' : Around) (f : Function) (o : Option Names) → Same
 body_same c m m' f None h = same_stop Stuck
 body_same c m m' f (Some names) h = record {
   by = λ w k le.
-      let r = (block_same c m m' h f.body).by (record { names = names; state = w }) k le in
-      end_same f.result k (flow_in m f.body (record { names = names; state = w }) k) (flow_in m' f.body (record { names = names; state = w }) k) r.0 r.1;
+      let r = (block_same c m m' h f.body).by (record { names = names; kinds = with_kinds f.params no_kinds; state = w }) k le in
+      end_same f.result k (flow_in m f.body (record { names = names; kinds = with_kinds f.params no_kinds; state = w }) k) (flow_in m' f.body (record { names = names; kinds = with_kinds f.params no_kinds; state = w }) k) r.0 r.1;
 }
 
 pub enter_same : (c : ℕ) (m m' : Around) (f : Function) (vs : List CValue) → SameAround c m m' → Same c (enter m f vs) (enter m' f vs)

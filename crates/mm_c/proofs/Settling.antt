@@ -22,7 +22,7 @@ use Rattle.mm_c.specs.declared.tree.CLocal.{CLocal}
 use Rattle.mm_c.specs.Tree.{Stmt, assign, store, run, if_only, if_else, forever, break, continue, leave, return, Block, block, Code, done, do_then, Function, Program}
 use Rattle.mm_c.specs.Memory as memory
 use Rattle.mm_c.specs.WellFormed.{is_inline}
-use Rattle.mm_c.specs.CMeaning.{Stop, Trapped, Spent, Stuck, State, Names, Store, From, stuck, or_stuck, Around, fitted_in, atom_of, value_in, target_in, reads, set_name, zero_all, stored, values_of, atoms_in, Flow, Next, Broke, Continued, Returned, unless_left, next_turn, if_zero, turns, called, call_of, gives, right_of, flow_of, flow_in, flows_of, returned_as, left_by, end_of, body_of, enter, given, no_names, answered, ask, trap, allocate, ints_in, Given, asks, traps, allocates, given_call, Callee, prelude, defined, callee_of, Calls, Steps, plain_callee, plain_calls, any_callee, all_calls, around_of, around_all, steps_of}
+use Rattle.mm_c.specs.CMeaning.{Stop, Trapped, Spent, Stuck, State, Names, Store, From, stuck, or_stuck, Around, fitted_in, atom_of, value_in, target_in, reads, set_name, zero_all, stored, values_of, atoms_in, Flow, Next, Broke, Continued, Returned, unless_left, next_turn, if_zero, turns, called, call_of, gives, right_of, flow_of, flow_in, flows_of, returned_as, left_by, end_of, body_of, enter, given, with_kinds, no_names, no_kinds, answered, ask, trap, allocate, ints_in, Given, asks, traps, allocates, given_call, Callee, prelude, defined, callee_of, Calls, Steps, plain_callee, plain_calls, any_callee, all_calls, around_of, around_all, steps_of}
 use Rattle.mm_c.specs.CRun.{outcome_of, starting}
 use Rattle.mm_c.specs.Settles.{Before, SettlesAt, Settles}
 
@@ -75,7 +75,7 @@ module _ {A C : Type 0} where
 
 module _ {A : Type 0} (s : Store) where
   abbrev whole : Run Stop State A → Run Stop Store A
-  whole = within (λ t. record { names = s.names; state = t })
+  whole = within (λ t. record { names = s.names; kinds = s.kinds; state = t })
 
   whole_before : (t : State) (r : Run Stop State A) → Before t (state_of r) → Before t (state_of (whole r)).state
   whole_before t (Gives a u j) b = b
@@ -225,8 +225,8 @@ end_later r _ y (goes_on {s = s} b) = goes_on (end_before r s.state y b)
 body_long : (m : Around) (calls : List ℕ → List CValue → From State (Option CValue)) → ((f : List ℕ) (vs : List CValue) → Longer Before (m.call f vs) (calls f vs)) → (f : Function) (o : Option Names) → Longer Before (body_of m f o) (body_of (calling m calls) f o)
 body_long m calls long f None = long_stuck Before order
 body_long m calls long f (Some names) = record {
-  adds = record { by = λ w k. end_later f.result _ _ ((block_long m calls long f.body).adds.by (record { names = names; state = w }) k) };
-  grows = record { by = λ w k. end_before f.result w (flow_in (calling m calls) f.body (record { names = names; state = w }) k) ((block_long m calls long f.body).grows.by (record { names = names; state = w }) k) };
+  adds = record { by = λ w k. end_later f.result _ _ ((block_long m calls long f.body).adds.by (record { names = names; kinds = with_kinds f.params no_kinds; state = w }) k) };
+  grows = record { by = λ w k. end_before f.result w (flow_in (calling m calls) f.body (record { names = names; kinds = with_kinds f.params no_kinds; state = w }) k) ((block_long m calls long f.body).grows.by (record { names = names; kinds = with_kinds f.params no_kinds; state = w }) k) };
 }
 
 enter_long : (p : Program) (x y : Calls) → ((f : List ℕ) (vs : List CValue) → Longer Before (x f vs) (y f vs)) → (f : Function) (vs : List CValue) → Longer Before (enter (around_of p x) f vs) (enter (around_of p y) f vs)

@@ -49,9 +49,14 @@ pub record State : Type 0 where
 abbrev pub Names : Type 0
 Names = List ℕ → CValue
 
+-- the kind of each local, as it was declared
+abbrev pub Kinds : Type 0
+Kinds = List ℕ → CKind
+
 -- the locals of the function that runs, and the state
 pub record Store : Type 0 where
   pub names : Names
+  pub kinds : Kinds
   pub state : State
 
 abbrev pub From : Type 0 → Type 0 → Type 0
@@ -117,6 +122,14 @@ with_name names x v = λ y. if bytes_eq x y then v else names y
 abbrev pub zeroed : List CLocal → Names → Names
 zeroed [] names = names
 zeroed (x ∷ xs) names = zeroed xs (with_name names x.name (zero_of x.kind))
+
+abbrev pub with_kind : Kinds → List ℕ → CKind → Kinds
+with_kind kinds x k = λ y. if bytes_eq x y then k else kinds y
+
+-- the kinds of parameters or of a block's locals, beside those before them
+abbrev pub with_kinds : List CLocal → Kinds → Kinds
+with_kinds [] kinds = kinds
+with_kinds (x ∷ xs) kinds = with_kinds xs (with_kind kinds x.name x.kind)
 
 -- the opposite of a number
 abbrev pub minus : ℕ → ℤ
@@ -308,22 +321,23 @@ values_of names = map (atom_of names)
 abbrev pub reads : CAtom → From Store CValue
 reads a s k = Gives (atom_of s.names a) s k
 
+-- The local receives the value by the kind that it was declared with.
 abbrev pub set_name : List ℕ → CValue → From Store (Unit {0})
-set_name x v s k = Gives tt (record { names = with_name s.names x (fitted (kind_of (s.names x)) v); state = s.state }) k
+set_name x v s k = Gives tt (record { names = with_name s.names x (fitted (s.kinds x) v); kinds = s.kinds; state = s.state }) k
 
 abbrev pub zero_all : List CLocal → From Store (Unit {0})
-zero_all xs s k = Gives tt (record { names = zeroed xs s.names; state = s.state }) k
+zero_all xs s k = Gives tt (record { names = zeroed xs s.names; kinds = with_kinds xs s.kinds; state = s.state }) k
 
 -- a run in the state alone, without the caller's locals
 abbrev pub outside : {A : Type 0} → From State A → From Store A
-outside m s k = within (λ t. record { names = s.names; state = t }) (m s.state k)
+outside m s k = within (λ t. record { names = s.names; kinds = s.kinds; state = t }) (m s.state k)
 
 abbrev pub with_memory : State → List memory.Block → State
 with_memory s blocks = record { memory = blocks; world = s.world }
 
 abbrev pub stored : Option (List memory.Block) → From Store (Unit {0})
 stored None = stuck
-stored (Some blocks) = λ s k. Gives tt (record { names = s.names; state = with_memory s.state blocks }) k
+stored (Some blocks) = λ s k. Gives tt (record { names = s.names; kinds = s.kinds; state = with_memory s.state blocks }) k
 
 abbrev pub store_at : CCell → CAddress → CAtom → From Store (Unit {0})
 store_at c p a s k = stored (memory.store s.state.memory c (s.names p.pointer) p.offset.value (fitted_in c (atom_of s.names a))) s k
@@ -450,6 +464,9 @@ end_of r (Stops t s) = Stops t s.state
 abbrev pub no_names : Names
 no_names x = Int (pos 0)
 
+abbrev pub no_kinds : Kinds
+no_kinds x = kind.Int
+
 -- the parameters, as many as there are values
 abbrev pub given : List CLocal → List CValue → Names → Option Names
 given [] [] names = Some names
@@ -458,7 +475,7 @@ given _ _ names = None
 
 abbrev pub body_of : Around → Function → Option Names → From State (Option CValue)
 body_of around f None = stuck
-body_of around f (Some names) = λ s k. end_of f.result (flow_in around f.body (record { names = names; state = s }) k)
+body_of around f (Some names) = λ s k. end_of f.result (flow_in around f.body (record { names = names; kinds = with_kinds f.params no_kinds; state = s }) k)
 
 -- a function's body on the values of its arguments
 abbrev pub enter : Around → Function → List CValue → From State (Option CValue)
