@@ -1,0 +1,12 @@
+pub mod Names
+pub mod Ints
+pub mod Stores
+pub mod Tests
+pub mod Operators
+pub mod Nodes
+pub mod Stmts
+pub mod Functions
+pub mod Programs
+pub mod Scalar
+pub mod Below
+pub mod Fitting

@@ -1,0 +1,284 @@
+-- The lowered program runs as the source does, at every bound.
+use Rattle.std.proofs.Common.{◌≡◌, ◌≢◌, ℕ, zero, suc, ◌+◌, ◌<◌, List, [], ◌∷◌, ◌++◌, length, refl, sym, ap, ◌∙◌, subst, arith}
+use Rattle.std.specs.Prelude.{ℤ, Bool, true, false, ◌&&◌, not, IsTrue, nat_eq, if◌then◌else◌, codes, Option, Some, None, slice_get}
+use Rattle.std.specs.Str.{bytes_eq}
+use Rattle.std.proofs.lemmas.Bool.{eqb-true, eq-eqb}
+use Rattle.std.proofs.lemmas.Slice.Eq.{bytes_eq-Decides}
+use Rattle.mm_meaning.specs.Run.{Run}
+use Rattle.mm_classes.specs.declared.class.Ty.{Ty}
+use Rattle.mm_classes.specs.declared.class.Ty.TheVariants as ty
+use Rattle.mm_classes.specs.Lists.{Has, first, later}
+use Rattle.mm_core.specs.declared.part.CoreParam.{CoreParam}
+use Rattle.mm_core.specs.Tree.{Stmt, block, Function, Program}
+use Rattle.mm_core.specs.Heads.{same_type, is_main, has_params, is_open, this_of, owner_of, types_of_params, argument_types, local_types, type_at}
+use Rattle.mm_core.specs.State as source
+use Rattle.mm_core.specs.State.{Value, State}
+use Rattle.mm_core.specs.Scalar.{int_value}
+use Rattle.mm_core.specs.Meaning.{call_of}
+use Rattle.mm_core.specs.Run as by
+use Rattle.mm_core.specs.Run.{number_of_main, source_run}
+use Rattle.mm_core.specs.ValidProgram.{around, numbers_below, IsValidFunction, BodyFits}
+use Rattle.mm_core.specs.Valid.{IsValidStmt}
+use Rattle.mm_core.specs.Fits.{Fits, AllFit, IsState}
+use Rattle.mm_core.proofs.Heap.{Gave}
+use Rattle.mm_core.proofs.Sound.{Known}
+use Rattle.mm_agree.proofs.Steps.{agree_on, agree_weaken}
+use Rattle.mm_c.specs.declared.value.CValue.{CValue}
+use Rattle.mm_c.specs.declared.tree.CKind.{CKind}
+use Rattle.mm_c.specs.declared.tree.CLinkage.TheVariants.{Public, Static}
+use Rattle.mm_c.specs.WellFormed.{is_inline}
+use Rattle.mm_c.specs.CMeaning as c
+use Rattle.mm_c.specs.CRun as run
+use Rattle.mm_c.specs.CRun.{c_run}
+use Rattle.mm_c.specs.Tree as tree
+use Rattle.mm_agree.specs.Agree.{stop_in_c, Layout, Agree, both_give, both_stop, in_c, all_in_c, States, OneWorld, SameResult, Alike, CallsAgree, HasPrelude}
+use Rattle.mm_agree.specs.Translates.{finish_in_c, outcome_in_c, IsInput, Translates}
+use Rattle.mm_simulate.specs.Names.{function_named}
+use Rattle.mm_simulate.specs.Lowered.{name_of, fn_of, function_items, proto_items, head_items, functions_from, heads_from, lowered_program, IsLoweredStmt}
+use Rattle.mm_simulate.proofs.Names.{numeral_injective}
+use Rattle.mm_simulate.proofs.Stores.{is_void}
+use Rattle.mm_simulate.proofs.Nodes.{AllSolid}
+use Rattle.mm_simulate.proofs.Stmts.{not_void}
+use Rattle.mm_simulate.proofs.Functions.{function_agrees}
+
+-- ---- names of functions
+
+rest_of : List ℕ → List ℕ
+rest_of (a ∷ b ∷ c ∷ d ∷ e ∷ more) = more
+rest_of other = []
+
+second_of : List ℕ → ℕ
+second_of (a ∷ b ∷ more) = b
+second_of other = 0
+
+unequal : ◌≢◌ {A = ℕ} 97 109
+unequal e = omega (arith, e)
+
+named_injective : (b d : Bool) (i j m : ℕ) → nat_eq i m ≡ b → nat_eq j m ≡ d → function_named b i ≡ function_named d j → i ≡ j
+unfolding rest_of second_of
+named_injective true true i j m e f h = eqb-true i m e ∙ sym (eqb-true j m f)
+named_injective false false i j m e f h = numeral_injective i j (ap rest_of h)
+named_injective true false i j m e f h = absurd (unequal (ap second_of h))
+named_injective false true i j m e f h = absurd (unequal (sym (ap second_of h)))
+
+is_false : (b : Bool) → (b ≡ true → ⊥) → b ≡ false
+is_false true h = absurd (h refl)
+is_false false h = refl
+
+module _ (p : Program) (l : Layout) (callable : Function → Bool) (temps : Stmt → List (CKind × ℕ)) where
+  abbrev q : tree.Program
+  q = lowered_program p l callable temps
+
+  other_name : (i j : ℕ) → i ≢ j → bytes_eq (name_of p i) (name_of p j) ≡ false
+  other_name i j ne = is_false (bytes_eq (name_of p i) (name_of p j)) (λ e. ne (named_injective (nat_eq i (number_of_main p.functions)) (nat_eq j (number_of_main p.functions)) i j (number_of_main p.functions) refl refl ((bytes_eq-Decides (name_of p i) (name_of p j)).0 e)))
+
+  -- ---- what a name calls
+
+  found_if : (b d : Bool) (F : tree.Function) (more : List tree.Item) (x : List ℕ) → bytes_eq F.name x ≡ d → d ≡ b → c.function_in (tree.function F ∷ more) x ≡ elim b [ true ↦ Some (c.defined F) | false ↦ c.function_in more x ]
+  found_if b d F more x e f = ap (λ z. elim z as (λ (y : Bool). Option c.Callee) [ true ↦ Some (c.defined F) | false ↦ c.function_in more x ]) (e ∙ f)
+
+  skip : (n : ℕ) (f : Function) (o : Option Stmt) (more : List tree.Item) (i : ℕ) → n ≢ i → c.function_in (function_items p l callable temps n f o more) (name_of p i) ≡ c.function_in more (name_of p i)
+  skip n f None more i ne = refl
+  skip n f (Some b) more i ne = found_if false false (fn_of p l callable temps n f b) more (name_of p i) (other_name n i ne) refl
+
+  find : (fs : List Function) (n i j : ℕ) (f : Function) (b : Stmt) → slice_get fs j ≡ Some f → f.body ≡ Some b → i ≡ n + j → c.function_in (functions_from p l callable temps n fs) (name_of p i) ≡ Some (c.defined (fn_of p l callable temps i f b))
+  find [] n i j f b e h is = cc
+  find (g ∷ fs) n i zero f b e h is =
+      let same : g ≡ f = cc in
+      let at : n ≡ i = omega arith in
+      ap (λ (z : Function). c.function_in (function_items p l callable temps n z z.body (functions_from p l callable temps (suc n) fs)) (name_of p i)) same
+      ∙ ap (λ o. c.function_in (function_items p l callable temps n f o (functions_from p l callable temps (suc n) fs)) (name_of p i)) h
+      ∙ ap (λ z. c.function_in (tree.function (fn_of p l callable temps z f b) ∷ functions_from p l callable temps (suc n) fs) (name_of p i)) at
+      ∙ found_if true true (fn_of p l callable temps i f b) (functions_from p l callable temps (suc n) fs) (name_of p i) ((bytes_eq-Decides (name_of p i) (name_of p i)).1 refl) refl
+  find (g ∷ fs) n i (suc j) f b e h is = skip n g g.body (functions_from p l callable temps (suc n) fs) i (λ z. let y : ⊥ = omega arith in y) ∙ find fs (suc n) i j f b e h (omega arith)
+
+  past_proto : (b : Bool) (F : tree.Function) (more : List tree.Item) (x : List ℕ) → c.function_in (proto_items p l callable temps b F more) x ≡ c.function_in more x
+  past_proto true F more x = refl
+  past_proto false F more x = refl
+
+  past_head : (n : ℕ) (f : Function) (o : Option Stmt) (more : List tree.Item) (x : List ℕ) → c.function_in (head_items p l callable temps n f o more) x ≡ c.function_in more x
+  past_head n f None more x = refl
+  past_head n f (Some b) more x = past_proto (nat_eq n (number_of_main p.functions)) (fn_of p l callable temps n f b) more x
+
+  past_heads : (fs : List Function) (n : ℕ) (more : List tree.Item) (x : List ℕ) → c.function_in (heads_from p l callable temps n fs more) x ≡ c.function_in more x
+  past_heads [] n more x = refl
+  past_heads (f ∷ fs) n more x = past_head n f f.body (heads_from p l callable temps (suc n) fs more) x ∙ past_heads fs (suc n) more x
+
+  -- no function of the source has a name of the prelude
+  no_prelude : (b : Bool) (n : ℕ) → c.callee_of q (function_named b n) ≡ c.function_in q.items (function_named b n)
+  no_prelude true n = refl
+  no_prelude false n = refl
+
+  callee : (i : ℕ) (f : Function) (b : Stmt) → slice_get p.functions i ≡ Some f → f.body ≡ Some b → c.callee_of q (name_of p i) ≡ Some (c.defined (fn_of p l callable temps i f b))
+  callee i f b e h = no_prelude (nat_eq i (number_of_main p.functions)) i ∙ past_heads p.functions 0 (functions_from p l callable temps 0 p.functions) (name_of p i) ∙ find p.functions 0 i i f b e h (omega arith)
+
+  not_inline : (b : Bool) → is_inline (if b then Public else Static) ≡ false
+  not_inline true = refl
+  not_inline false = refl
+
+  called : (steps : c.Steps) (i : ℕ) (f : Function) (b : Stmt) (vs : List CValue) → slice_get p.functions i ≡ Some f → f.body ≡ Some b → c.all_calls q steps (name_of p i) vs ≡ steps (fn_of p l callable temps i f b) vs
+  called steps i f b vs e h = ap (λ o. c.any_callee q steps o vs) (callee i f b e h) ∙ ap (λ (z : Bool). if z then c.enter (c.around_of q (c.plain_calls q steps)) (fn_of p l callable temps i f b) vs else steps (fn_of p l callable temps i f b) vs) (not_inline (nat_eq i (number_of_main p.functions)))
+
+  pub prelude : (steps : c.Steps) → HasPrelude (c.around_all q steps)
+  prelude steps = record { put = λ vs. refl; get = λ vs. refl; more = λ vs. refl; trap = λ vs. refl; new = λ vs. refl }
+
+  -- ---- a valid function has no local of type `void`
+
+  module _ (f : Function) (valid : IsValidFunction callable p f) where
+    solid_list : (ts : List Ty) → ((t : Ty) → Has ts t → t ≢ ty.Void) → AllSolid ts
+    solid_list [] h = tt
+    solid_list (t ∷ ts) h = (not_void t (h t (first refl)), solid_list ts (λ u m. h u (later m)))
+
+    solid_append : (ts us : List Ty) → AllSolid ts → AllSolid us → AllSolid (ts ++ us)
+    solid_append [] us h k = k
+    solid_append (t ∷ ts) us h k = (h.0, solid_append ts us h.1 k)
+
+    solid_this : (b : Bool) (o : Option ℕ) → AllSolid (if b then this_of o else [])
+    solid_this true None = tt
+    solid_this true (Some d) = (refl, tt)
+    solid_this false o = tt
+
+    solid_params : (qs : List CoreParam) → ((x : CoreParam) → Has qs x → x.ty ≢ ty.Void) → AllSolid (types_of_params qs)
+    solid_params [] h = tt
+    solid_params (x ∷ qs) h = (not_void x.ty (h x (first refl)), solid_params qs (λ y m. h y (later m)))
+
+    pub arguments_solid : AllSolid (argument_types p.classes f)
+    arguments_solid = solid_append (if f.member then this_of (owner_of p.classes f) else []) (types_of_params f.params) (solid_this f.member (owner_of p.classes f)) (solid_params f.params (λ x h. (valid.params x h).0.1))
+
+    solid_at : (ts : List Ty) (x : ℕ) → AllSolid ts → x < length ts → is_void (type_at ts x) ≡ false
+    solid_at [] x h low = absurd (let z : ⊥ = omega arith in z)
+    solid_at (t ∷ ts) zero h low = h.0
+    solid_at (t ∷ ts) (suc x) h low = solid_at ts x h.1 (omega arith)
+
+    pub locals_solid : (x : ℕ) → x < length (local_types p.classes f) → is_void (type_at (local_types p.classes f) x) ≡ false
+    locals_solid x low = solid_at (local_types p.classes f) x (solid_append (argument_types p.classes f) f.locals arguments_solid (solid_list f.locals (λ t h. (valid.locals t h).1))) low
+
+  -- ---- the main induction
+
+  module _ (known : (n : ℕ) (types : List Ty) (arguments : ℕ) → Known p callable types arguments (call_of p n)) (valid : (i : ℕ) (f : Function) → slice_get p.functions i ≡ Some f → IsValidFunction callable p f) (defined : (f : Function) → IsTrue (callable f) → f.defined ≡ true) (low : (i : ℕ) (f : Function) (b : Stmt) → slice_get p.functions i ≡ Some f → f.body ≡ Some b → IsLoweredStmt (around callable p f) b) where
+    record HasBody (f : Function) : Type 0 where
+      stmt : Stmt
+      is : f.body ≡ Some stmt
+      fits : IsValidStmt (around callable p f) f.result false (numbers_below (length (argument_types p.classes f))) stmt
+
+    body_of : (f : Function) (d : Bool) (o : Option Stmt) → d ≡ true → f.body ≡ o → BodyFits (around callable p f) f.result d o → HasBody f
+    body_of f true (Some (block ss)) e h v = record { stmt = block ss; is = h; fits = v }
+    body_of f true None e h v = absurd v
+    body_of f true (Some st) e h v = absurd v
+    body_of f false o e h v = cc
+
+    solid_calls : (n : ℕ) (f : Function) → slice_get p.functions n ≡ Some f → AllSolid (argument_types p.classes f)
+    solid_calls n f e = arguments_solid f (valid n f e)
+
+    -- the call of a function, and of its code
+    steps_agree : (n i : ℕ) (f : Function) (b : HasBody f) (vs : List Value) (s : State) (u : c.State) (k : ℕ) → CallsAgree p l callable (name_of p) (λ k. Unit {0}) (call_of p n) (c.around_all q (c.steps_of q n)) → slice_get p.functions i ≡ Some f → AllFit p.classes s.objects (argument_types p.classes f) vs → IsState p.classes s → States p.classes l s u → Alike p.classes l f.result (call_of p (suc n) i vs s k) (c.steps_of q (suc n) (fn_of p l callable temps i f b.stmt) (all_in_c l s.objects vs) u k)
+    steps_agree n i f b vs s u zero agree e fits is states = both_stop states.world
+    steps_agree n i f b vs s u (suc k) agree e fits is states =
+        rw (e, b.is) (function_agrees p callable l (name_of p) (call_of p n) (c.around_all q (c.steps_of q n)) (prelude (c.steps_of q n)) f (known n (local_types p.classes f) (length (argument_types p.classes f))) agree (locals_solid f (valid i f e)) solid_calls i (nat_eq i (number_of_main p.functions)) b.stmt (temps b.stmt) (low i f b.stmt e b.is) b.fits vs s u k fits is states)
+
+    pub calls_agree : (n : ℕ) → CallsAgree p l callable (name_of p) (λ k. Unit {0}) (call_of p n) (c.around_all q (c.steps_of q n))
+    calls_agree zero = record { by = λ i f vs s u k at e closed ok fits is states.
+        let b = body_of f f.defined f.body (defined f ok) refl (valid i f e).body in
+        rw (called (c.steps_of q 0) i f b.stmt (all_in_c l s.objects vs) e b.is) (both_stop states.world) }
+    calls_agree (suc n) = record { by = λ i f vs s u k at e closed ok fits is states.
+        let b = body_of f f.defined f.body (defined f ok) refl (valid i f e).body in
+        rw (called (c.steps_of q (suc n)) i f b.stmt (all_in_c l s.objects vs) e b.is) (steps_agree n i f b vs s u k (calls_agree n) e fits is states) }
+
+    -- ---- runs of programs
+
+    abbrev IsThere : List Function → ℕ → Type 0
+    IsThere fs n = (f : Function) × (slice_get fs n ≡ Some f) × ((f.defined && is_main f) ≡ true)
+
+    there_at : (f : Function) (fs : List Function) (b : Bool) → (f.defined && is_main f) ≡ b → (number_of_main fs < length fs → IsThere fs (number_of_main fs)) → (if b then 0 else suc (number_of_main fs)) < suc (length fs) → IsThere (f ∷ fs) (if b then 0 else suc (number_of_main fs))
+    there_at f fs true e ih h = (f, refl, e)
+    there_at f fs false e ih h = let r = ih (omega arith) in (r.0, r.1, r.2)
+
+    main_there : (fs : List Function) → number_of_main fs < length fs → IsThere fs (number_of_main fs)
+    main_there [] h = absurd (let z : ⊥ = omega arith in z)
+    main_there (f ∷ fs) h = there_at f fs (f.defined && is_main f) refl (main_there fs) h
+
+    both_are : (x y : Bool) → (x && y) ≡ true → (x ≡ true) × (y ≡ true)
+    both_are true y e = (refl, e)
+    both_are false y e = cc
+
+    no_params : (qs : List CoreParam) → not (has_params qs) ≡ true → qs ≡ []
+    no_params [] e = refl
+    no_params (x ∷ qs) e = cc
+
+    is_not : (b : Bool) → not b ≡ true → b ≡ false
+    is_not true e = cc
+    is_not false e = refl
+
+    record IsMain (f : Function) : Type 0 where
+      member : f.member ≡ false
+      params : f.params ≡ []
+      result : f.result ≡ ty.Int
+
+    int_is : (t : Ty) → same_type t ty.Int ≡ true → t ≡ ty.Int
+    int_is ty.Int e = refl
+    int_is ty.Void e = cc
+    int_is ty.Bool e = cc
+    int_is ty.Unsigned e = cc
+    int_is (ty.Ptr d) e = let z : ⊥ = grind arith in absurd z
+    int_is (ty.Ref d) e = let z : ⊥ = grind arith in absurd z
+
+    main_is : (f : Function) → is_main f ≡ true → IsMain f
+    main_is f e =
+        let e1 = both_are (bytes_eq f.name (codes "main")) (not f.member && (not (has_params f.params) && same_type f.result ty.Int)) e in
+        let e2 = both_are (not f.member) (not (has_params f.params) && same_type f.result ty.Int) e1.1 in
+        let e3 = both_are (not (has_params f.params)) (same_type f.result ty.Int) e2.1 in
+        record { member = is_not f.member e2.0; params = no_params f.params e3.0; result = int_is f.result e3.1 }
+
+    main_arguments : (f : Function) → IsMain f → argument_types p.classes f ≡ []
+    main_arguments f h = rw (h.member, h.params) refl
+
+    ended_same : (v : Value) (s : State) → Fits p.classes s.objects ty.Int v → run.ended_by (Some (in_c l s.objects v)) ≡ run.Ended (int_value v)
+    ended_same (source.Number z) s f = refl
+    ended_same (source.Truth z) s f = absurd f
+    ended_same (source.Word z) s f = absurd f
+    ended_same source.Null s f = absurd f
+    ended_same (source.At x y) s f = absurd f
+    ended_same source.Nothing s f = absurd f
+
+    stopped_same : (x : source.Stop) → run.stopped_by (stop_in_c x) ≡ finish_in_c (by.stopped_by x)
+    stopped_same (source.Trapped t) = refl
+    stopped_same source.Spent = refl
+
+    outcome_same : (x : Run source.Stop State Value) (y : Run c.Stop c.State (Option CValue)) → Agree OneWorld (λ v s r u. SameResult p.classes l ty.Int v s r u × Fits p.classes s.objects ty.Int v) x y → run.outcome_of y ≡ outcome_in_c (by.outcome_of x)
+    outcome_same _ _ (both_give {a = v} {s = s} {b = r} {t = u} h) = rw (h.0.value, ended_same v s h.1, ← h.0.states.world) refl
+    outcome_same _ _ (both_stop {x = x} {s = s} {t = u} e) = rw (stopped_same x, ← e) refl
+
+    main_name : name_of p (number_of_main p.functions) ≡ codes "main"
+    main_name = ap (λ b. function_named b (number_of_main p.functions)) (eq-eqb (number_of_main p.functions) (number_of_main p.functions) refl)
+
+    -- as a run begins
+    begins : (input : List ℤ) → IsInput input → IsState p.classes (by.starting input)
+    begins input ints = record { fields = λ o f t low. absurd (let z : ⊥ = omega arith in z); input = ints }
+
+    states_begin : (input : List ℤ) → States p.classes l (by.starting input) (run.starting input)
+    states_begin input = record { world = refl; heap = record { lengths = refl; each = λ o low. absurd (let z : ⊥ = omega arith in z) } }
+
+    module _ (main : number_of_main p.functions < length p.functions) (closed : (i : ℕ) (f : Function) → slice_get p.functions i ≡ Some f → is_open f ≡ false) (all_defined : (f : Function) → f.defined ≡ true → IsTrue (callable f)) where
+      agrees : (input : List ℤ) (n : ℕ) → IsInput input → c_run q input n ≡ outcome_in_c (source_run p input n)
+      agrees input n ints =
+          let there = main_there p.functions main in
+          let f = there.0 in
+          let is = both_are f.defined (is_main f) there.2 in
+          let h = main_is f is.1 in
+          let fits : AllFit p.classes (by.starting input).objects (argument_types p.classes f) [] = subst (λ ts. AllFit p.classes [] ts []) (sym (main_arguments f h)) tt in
+          let alike = (calls_agree n).by (number_of_main p.functions) f [] (by.starting input) (run.starting input) n tt there.1 (closed _ f there.1) (all_defined f is.0) fits (begins input ints) (states_begin input) in
+          let gave = (known n (local_types p.classes f) 0).calls_fit (number_of_main p.functions) f [] (by.starting input) n there.1 (closed _ f there.1) (all_defined f is.0) (begins input ints) fits in
+          ap (λ x. run.outcome_of (c.named_call q n x [] (run.starting input) n)) (sym main_name)
+          ∙ outcome_same _ _ (agree_weaken (agree_on (Gave p.classes f.result (by.starting input)) alike gave) (λ v s r u y. (subst (λ t. SameResult p.classes l t v s r u) h.result y.0, subst (λ t. Fits p.classes s.objects t v) h.result y.1.fits)))
+
+      no_end_is_stuck : (f : by.Finish) → finish_in_c f ≢ run.IsStuck
+      no_end_is_stuck (by.Ended z) = λ e. cc
+      no_end_is_stuck (by.TrappedBy k) = λ e. cc
+      no_end_is_stuck by.GoesOn = λ e. cc
+
+      -- the theorem
+      pub translates : Translates p q
+      translates = record {
+        agrees = agrees;
+        never_stuck = λ input n ints e. no_end_is_stuck (source_run p input n).finish (ap (λ (o : run.Outcome). o.finish) (sym (agrees input n ints)) ∙ e);
+      }
