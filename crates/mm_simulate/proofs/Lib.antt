@@ -12,3 +12,4 @@ pub mod Scalar
 pub mod Below
 pub mod Fitting
 pub mod FittingStmts
+pub mod Small

@@ -313,13 +313,20 @@ module _ (m : Frame) (calls : Calls) (around : c.Around) (has : HasPrelude aroun
       at st ih low valid s u k fine h is = reset st ih low valid s u k fine h
 
   for_agrees : (e : Expr) (st : Stmt) (ss : Stmts) → Claim st → ClaimAll ss → Claim (for_do e st ss)
-  for_agrees e st ss ihs ih in_loop known t s u k low valid fine h =
-      flagged_agrees t known (flow_of w m.types st) (tested (value_of w e) (flows_of w m.types ss)) (step_in t st (code_of (suc t) st)) (code (suc t) e ⨾ (break_unless (i_ (suc t)) ⨾ codes_of (suc t) ss))
-      (λ z j f. forget (core m calls) ok result true (sets st) known z _ (flow_fits (core m calls) ok result st true known z j valid.2 f))
-      (test_fits known e ss valid.0 valid.3)
-      (full_step st ihs known t low.1 valid.2)
-      (test_then (suc t) known e ss ih low.0 valid.0 low.2 valid.3)
-      s u k fine h
+  for_agrees e st ss ihs ih in_loop known t s u k low valid fine h = at st ihs low valid
+    where
+      flagged_for : (st : Stmt) → Claim st → IsLoweredStmt (a m) (for_do e st ss) → IsValid' in_loop known (for_do e st ss) → Agree SameWorld (Did m result t u.names) (flow_of w m.types (for_do e st ss) s k) (c.flows_of around (flagged t (step_in t st (code_of (suc t) st)) (code (suc t) e ⨾ (break_unless (i_ (suc t)) ⨾ codes_of (suc t) ss))) u k)
+      flagged_for st ihs low valid =
+          flagged_agrees t known (flow_of w m.types st) (tested (value_of w e) (flows_of w m.types ss)) (step_in t st (code_of (suc t) st)) (code (suc t) e ⨾ (break_unless (i_ (suc t)) ⨾ codes_of (suc t) ss))
+          (λ z j f. forget (core m calls) ok result true (sets st) known z _ (flow_fits (core m calls) ok result st true known z j valid.2 f))
+          (test_fits known e ss valid.0 valid.3)
+          (full_step st ihs known t low.1 valid.2)
+          (test_then (suc t) known e ss ih low.0 valid.0 low.2 valid.3)
+          s u k fine h
+
+      at : (st : Stmt) → Claim st → IsLoweredStmt (a m) (for_do e st ss) → IsValid' in_loop known (for_do e st ss) → Agree SameWorld (Did m result t u.names) (flow_of w m.types (for_do e st ss) s k) (c.flows_of around (code_of t (for_do e st ss)) u k)
+      at (block no_stmts) ihs low valid = while_agrees e ss ih in_loop known t s u k (low.0, low.2) (valid.0, valid.3) fine h
+      at st ihs low valid = flagged_for st ihs low valid
 
   -- ---- all statements
 

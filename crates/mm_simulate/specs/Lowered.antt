@@ -229,6 +229,11 @@ abbrev pub step_in : ℕ → Stmt → Code → Code
 step_in t (run e) code = code
 step_in t other code = set (i_ t) (Atom (plain 0)) ⨾ code
 
+-- A `for` from its step, and its test and body for a loop with a step and for one without.
+abbrev pub looped : ℕ → Stmt → Code → Code → Code → Code
+looped t (block no_stmts) step later plain = just (c.forever (block_of plain))
+looped t s step later plain = flagged t (step_in t s step) later
+
 module _ (a : Around) (l : Layout) (named_of : ℕ → List ℕ) where
   -- the temporaries from t on, one for each expression
   abbrev pub atoms_from : ℕ → Exprs → List CAtom
@@ -269,7 +274,7 @@ module _ (a : Around) (l : Layout) (named_of : ℕ → List ℕ) where
     lowered_stmt t (if_else e ss ts) = lowered t e ⨾ if_or (i_ t) (lowered_stmts t ss) (lowered_stmts t ts)
     lowered_stmt t (while_do e ss) = just (c.forever (block_of (lowered t e ⨾ (break_unless (i_ t) ⨾ lowered_stmts t ss))))
     lowered_stmt t (do_while ss e) = flagged t (lowered (suc t) e ⨾ break_unless (i_ (suc t))) (lowered_stmts (suc t) ss)
-    lowered_stmt t (for_do e s ss) = flagged t (step_in t s (lowered_stmt (suc t) s)) (lowered (suc t) e ⨾ (break_unless (i_ (suc t)) ⨾ lowered_stmts (suc t) ss))
+    lowered_stmt t (for_do e s ss) = looped t s (lowered_stmt (suc t) s) (lowered (suc t) e ⨾ (break_unless (i_ (suc t)) ⨾ lowered_stmts (suc t) ss)) (lowered t e ⨾ (break_unless (i_ t) ⨾ lowered_stmts t ss))
     lowered_stmt t break = just c.break
     lowered_stmt t continue = just c.continue
     lowered_stmt t return_nothing = just c.leave
