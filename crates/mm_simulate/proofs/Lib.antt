@@ -13,3 +13,4 @@ pub mod Below
 pub mod Fitting
 pub mod FittingStmts
 pub mod Small
+pub mod Spelled
