@@ -14,3 +14,4 @@ pub mod Fitting
 pub mod FittingStmts
 pub mod Small
 pub mod Spelled
+pub mod Mentions
