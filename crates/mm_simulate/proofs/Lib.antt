@@ -15,3 +15,4 @@ pub mod FittingStmts
 pub mod Small
 pub mod Spelled
 pub mod Mentions
+pub mod Scope
