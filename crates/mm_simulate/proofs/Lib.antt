@@ -7,6 +7,7 @@ pub mod Nodes
 pub mod Stmts
 pub mod Functions
 pub mod Defined
+pub mod Main
 pub mod Programs
 pub mod Scalar
 pub mod Below
@@ -16,3 +17,4 @@ pub mod Small
 pub mod Spelled
 pub mod Mentions
 pub mod Scope
+pub mod Wellformed

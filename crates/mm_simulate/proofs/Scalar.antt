@@ -13,6 +13,7 @@ use Rattle.mm_core.specs.Fits.{AllFit, IsState}
 use Rattle.mm_core.specs.Keeps.{On, Known, Gave, inside}
 use Rattle.mm_core.proofs.SoundCalls.{function_fits}
 use Rattle.mm_simulate.specs.Simulates.{IsScalar, Simulates}
+use Rattle.mm_simulate.proofs.Wellformed.{keeps_rules}
 use Rattle.mm_simulate.proofs.Programs.{translates}
 
 list-Has : (fs : List Function) (i : ℕ) (f : Function) → slice_get fs i ≡ Some f → Has fs f
@@ -69,4 +70,4 @@ module _ (p : Program) (scalar : IsScalar p) where
 
 -- the theorem
 pub simulates : Simulates
-simulates = record { translates = λ p l temps scalar. translates p l temps (known_at p scalar) (valid_at p scalar) (λ f e. e) scalar.trees scalar.merged.main (closed_at p scalar) (λ f e. e) }
+simulates = record { translates = λ p l temps scalar. translates p l temps (known_at p scalar) (valid_at p scalar) (λ f e. e) scalar.trees scalar.merged.main (closed_at p scalar) (λ f e. e); well_formed = λ p l temps scalar shallow theirs. keeps_rules p l temps scalar shallow theirs }

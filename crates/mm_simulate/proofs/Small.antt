@@ -38,7 +38,7 @@ append_deep n done ys e f = f
 append_deep n (do_then s xs) ys e f = let r = append_deep n xs ys (let z : code_depth xs ≤ n = omega arith in z) f in omega arith
 
 module _ {n : ℕ} where
-  small_then : (xs ys : Code) → Small n xs → Small n ys → Small n (xs ⨾ ys)
+  pub small_then : (xs ys : Code) → Small n xs → Small n ys → Small n (xs ⨾ ys)
   small_then xs ys f k = record { deep = append_deep (n + 3) xs ys f.deep k.deep; bare = append_bare xs ys f.bare k.bare }
 
   small_done : Small n done

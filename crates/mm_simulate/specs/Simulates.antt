@@ -1,5 +1,5 @@
 -- What is proved of lowered programs. (Own.)
-use Rattle.std.specs.Prelude.{◌≡◌, ℕ, Bool, false, IsTrue, List, [], Some, slice_get}
+use Rattle.std.specs.Prelude.{◌≡◌, ℕ, Bool, false, IsTrue, List, [], Some, slice_get, ◌≤◌, true}
 use Rattle.mm_classes.specs.Lists.{Has}
 use Rattle.mm_core.specs.Tree.{Stmt, Function, Program}
 use Rattle.mm_core.specs.Heads.{is_open, argument_types}
@@ -9,12 +9,13 @@ use Rattle.mm_core.specs.Meaning.{call_of}
 use Rattle.mm_core.specs.ValidProgram.{around, IsMerged}
 use Rattle.mm_core.specs.Fits.{AllFit, IsState}
 use Rattle.mm_c.specs.declared.tree.CKind.{CKind}
-use Rattle.mm_c.specs.WellFormed.{is_inline}
+use Rattle.mm_c.specs.WellFormed.{is_inline, well_formed}
 use Rattle.mm_c.specs.Tree as tree
 use Rattle.mm_c.specs.CMeaning as c
 use Rattle.mm_agree.specs.Agree.{Layout, all_in_c, States, Alike}
 use Rattle.mm_agree.specs.Translates.{Translates}
-use Rattle.mm_simulate.specs.Lowered.{is_defined, lowered_program, IsLoweredStmt}
+use Rattle.mm_simulate.specs.Lowered.{is_defined, name_of, nesting_stmt, lowered_stmt, lowered_program, IsLoweredStmt}
+use Rattle.mm_simulate.specs.Temporaries.{AreTemporaries}
 
 -- A merged program of functions over scalars: without classes and open-methods, of trees that are lowered here.
 pub record IsScalar (p : Program) : Type 0 where
@@ -23,9 +24,19 @@ pub record IsScalar (p : Program) : Type 0 where
   pub closed : (f : Function) → Has p.functions f → is_open f ≡ false
   pub trees : (i : ℕ) (f : Function) (b : Stmt) → slice_get p.functions i ≡ Some f → f.body ≡ Some b → IsLoweredStmt (around is_defined p f) b
 
--- Its program translates it, whatever temporaries are declared and wherever objects would stand.
+-- In the code of each body blocks stand in one another no deeper than C allows, which is 4,096, with a function's own and three
+-- for an operator. (A statement stands in at most 200 others, and an expression has at most 1,000 tokens.)
+abbrev pub IsShallow : Program → Type 0
+IsShallow p = (i : ℕ) (f : Function) (b : Stmt) → slice_get p.functions i ≡ Some f → f.body ≡ Some b → nesting_stmt b ≤ 4092
+
+-- Each function declares the temporaries that its code needs.
+abbrev pub DeclareTheirs : Program → Layout → (ℕ → List (CKind × ℕ)) → Type 0
+DeclareTheirs p l temps = (i : ℕ) (f : Function) (b : Stmt) → slice_get p.functions i ≡ Some f → f.body ≡ Some b → AreTemporaries (lowered_stmt (around is_defined p f) l (name_of p) 0 b) (temps i)
+
+-- Its program translates it, whatever temporaries are declared and wherever objects would stand; and it breaks no rule of C.
 pub record Simulates : Type 0 where
   pub translates : (p : Program) (l : Layout) (temps : ℕ → List (CKind × ℕ)) → IsScalar p → Translates p (lowered_program p l temps)
+  pub well_formed : (p : Program) (l : Layout) (temps : ℕ → List (CKind × ℕ)) → IsScalar p → IsShallow p → DeclareTheirs p l temps → well_formed (lowered_program p l temps) ≡ true
 
 -- ---- one function, in any program that holds it
 
