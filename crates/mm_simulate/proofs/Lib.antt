@@ -7,6 +7,7 @@ pub mod Nodes
 pub mod Stmts
 pub mod Functions
 pub mod Defined
+pub mod Plain
 pub mod Main
 pub mod Programs
 pub mod Scalar

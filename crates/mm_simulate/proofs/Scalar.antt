@@ -14,6 +14,7 @@ use Rattle.mm_core.specs.Keeps.{On, Known, Gave, inside}
 use Rattle.mm_core.proofs.SoundCalls.{function_fits}
 use Rattle.mm_simulate.specs.Simulates.{IsScalar, Simulates}
 use Rattle.mm_simulate.proofs.Wellformed.{keeps_rules}
+use Rattle.mm_simulate.proofs.Plain.{closed, trees}
 use Rattle.mm_simulate.proofs.Programs.{translates}
 
 list-Has : (fs : List Function) (i : ℕ) (f : Function) → slice_get fs i ≡ Some f → Has fs f
@@ -29,7 +30,7 @@ module _ (p : Program) (scalar : IsScalar p) where
   valid_at i f e = scalar.merged.valid.functions f (list-Has p.functions i f e)
 
   closed_at : (i : ℕ) (f : Function) → slice_get p.functions i ≡ Some f → is_open f ≡ false
-  closed_at i f e = scalar.closed f (list-Has p.functions i f e)
+  closed_at i f e = closed p scalar.classes valid_at i f e
 
   plain : (c f : ℕ) → is_reference (field_type p.classes c f) ≡ false
   plain c f = subst (λ g. is_reference (field_type g c f) ≡ false) (sym scalar.classes) refl
@@ -70,4 +71,4 @@ module _ (p : Program) (scalar : IsScalar p) where
 
 -- the theorem
 pub simulates : Simulates
-simulates = record { translates = λ p l temps scalar. translates p l temps (known_at p scalar) (valid_at p scalar) (λ f e. e) scalar.trees scalar.merged.main (closed_at p scalar) (λ f e. e); well_formed = λ p l temps scalar shallow theirs. keeps_rules p l temps scalar shallow theirs }
+simulates = record { translates = λ p l temps scalar. translates p l temps (known_at p scalar) (valid_at p scalar) (λ f e. e) (trees p scalar.classes (valid_at p scalar)) scalar.merged.main (closed_at p scalar) (λ f e. e); well_formed = λ p l temps scalar shallow theirs. keeps_rules p l temps scalar shallow theirs }

@@ -29,6 +29,7 @@ use Rattle.mm_simulate.specs.Temporaries.{names_in}
 use Rattle.mm_simulate.specs.Simulates.{IsScalar, IsShallow, DeclareTheirs}
 use Rattle.mm_simulate.proofs.Names.{is_false, function_name}
 use Rattle.mm_simulate.proofs.Defined.{defined_as, IsAt, Apart, has_left, has_right, has_either, others_sound, others_apart, entry_is, sound, complete, all_apart}
+use Rattle.mm_simulate.proofs.Plain.{trees}
 use Rattle.mm_simulate.proofs.Main.{main_there, both_are, main_is, HasBody, body_of, main_arguments}
 use Rattle.mm_simulate.proofs.Spelled.{place_spelled, function_spelled, no_function}
 use Rattle.mm_simulate.proofs.Mentions.{same_code}
@@ -239,7 +240,7 @@ module _ (p : Program) (l : Layout) (temps : ℕ → List (CKind × ℕ)) (scala
       body_valid = subst (λ b. IsValidStmt (around is_defined p d.function) d.function.result false (numbers_below (length arguments)) b) same_body has_stmt.fits
 
       body_fits : Fit here code
-      body_fits = record { by = ap (list_any is_true) (same_code scope full wide code (one_kind scope ds (temporaries reached) (names_in code) declared_in (theirs d.number d.function d.body at.there at.has_body).mentioned)) ∙ (stmt_fits (around is_defined p d.function) l N reached d.function.result d.body wide false (numbers_below (length arguments)) 0 (record { declares = declares; plain = never_inline (nat_eq d.number (number_of_main p.functions)); gives = refl; loop = λ t. cc }) (scalar.trees d.number d.function d.body at.there at.has_body) body_valid (omega arith)).by }
+      body_fits = record { by = ap (list_any is_true) (same_code scope full wide code (one_kind scope ds (temporaries reached) (names_in code) declared_in (theirs d.number d.function d.body at.there at.has_body).mentioned)) ∙ (stmt_fits (around is_defined p d.function) l N reached d.function.result d.body wide false (numbers_below (length arguments)) 0 (record { declares = declares; plain = never_inline (nat_eq d.number (number_of_main p.functions)); gives = refl; loop = λ t. cc }) (trees p scalar.classes valid_at d.number d.function d.body at.there at.has_body) body_valid (omega arith)).by }
 
       ending_fits : (t : Ty) (b : Bool) → (b ≡ true → t ≡ ty.Int) → (h : Here) → h.result ≡ kind_of_result t → entry_in h.table (codes "mm_trap") ≡ Some (callable false true None (Int ∷ [])) → Fit h (ending t b)
       ending_fits ty.Void b e h r trap = fit_done h

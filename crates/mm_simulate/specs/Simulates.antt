@@ -1,6 +1,5 @@
 -- What is proved of lowered programs. (Own.)
 use Rattle.std.specs.Prelude.{◌≡◌, ℕ, Bool, false, IsTrue, List, [], Some, slice_get, ◌≤◌, true}
-use Rattle.mm_classes.specs.Lists.{Has}
 use Rattle.mm_core.specs.Tree.{Stmt, Function, Program}
 use Rattle.mm_core.specs.Heads.{is_open, argument_types}
 use Rattle.mm_core.specs.State.{Value, State}
@@ -14,15 +13,13 @@ use Rattle.mm_c.specs.Tree as tree
 use Rattle.mm_c.specs.CMeaning as c
 use Rattle.mm_agree.specs.Agree.{Layout, all_in_c, States, Alike}
 use Rattle.mm_agree.specs.Translates.{Translates}
-use Rattle.mm_simulate.specs.Lowered.{is_defined, name_of, nesting_stmt, lowered_stmt, lowered_program, IsLoweredStmt}
+use Rattle.mm_simulate.specs.Lowered.{is_defined, name_of, nesting_stmt, lowered_stmt, lowered_program}
 use Rattle.mm_simulate.specs.Temporaries.{AreTemporaries}
 
--- A merged program of functions over scalars: without classes and open-methods, of trees that are lowered here.
+-- A merged program without classes: its types are `void`, `bool`, `int` and `unsigned`.
 pub record IsScalar (p : Program) : Type 0 where
   pub merged : IsMerged p
   pub classes : p.classes ≡ []
-  pub closed : (f : Function) → Has p.functions f → is_open f ≡ false
-  pub trees : (i : ℕ) (f : Function) (b : Stmt) → slice_get p.functions i ≡ Some f → f.body ≡ Some b → IsLoweredStmt (around is_defined p f) b
 
 -- In the code of each body blocks stand in one another no deeper than C allows, which is 4,096, with a function's own and three
 -- for an operator. (A statement stands in at most 200 others, and an expression has at most 1,000 tokens.)
