@@ -9,9 +9,9 @@ pub mod Functions
 pub mod Defined
 pub mod Plain
 pub mod Main
+pub mod Below
 pub mod Programs
 pub mod Scalar
-pub mod Below
 pub mod Fitting
 pub mod FittingStmts
 pub mod Small

@@ -1,5 +1,5 @@
 -- What is proved of lowered programs. (Own.)
-use Rattle.std.specs.Prelude.{◌≡◌, ℕ, Bool, false, IsTrue, List, [], Some, slice_get, ◌≤◌, true}
+use Rattle.std.specs.Prelude.{◌≡◌, ℕ, Bool, false, IsTrue, List, [], Some, slice_get, ◌≤◌, true, ◌<◌}
 use Rattle.mm_core.specs.Tree.{Stmt, Function, Program}
 use Rattle.mm_core.specs.Heads.{is_open, argument_types}
 use Rattle.mm_core.specs.State.{Value, State}
@@ -13,7 +13,7 @@ use Rattle.mm_c.specs.Tree as tree
 use Rattle.mm_c.specs.CMeaning as c
 use Rattle.mm_agree.specs.Agree.{Layout, all_in_c, States, Alike}
 use Rattle.mm_agree.specs.Translates.{Translates}
-use Rattle.mm_simulate.specs.Lowered.{is_defined, name_of, nesting_stmt, lowered_stmt, lowered_program}
+use Rattle.mm_simulate.specs.Lowered.{is_defined, name_of, nesting_stmt, lowered_stmt, lowered_program, lowered_fn}
 use Rattle.mm_simulate.specs.Temporaries.{AreTemporaries}
 
 -- A merged program without classes: its types are `void`, `bool`, `int` and `unsigned`.
@@ -50,3 +50,11 @@ pub record Named (p : Program) (callable : Function → Bool) (name : ℕ → Li
 -- The function i keeps the correspondence at the clock n.
 pub record KeepsAt (p : Program) (l : Layout) (q : tree.Program) (n i : ℕ) (f : Function) (F : tree.Function) : Type 0 where
   pub by : (vs : List Value) (s : State) (u : c.State) → AllFit p.classes s.objects (argument_types p.classes f) vs → IsState p.classes s → States p.classes l s u → Alike p.classes l f.result (source_now p i vs s n) (c.now q F (all_in_c l s.objects vs) u n)
+
+-- In any C program where the functions of the source have names, the code of a defined function keeps the correspondence at
+-- a clock, if all functions do at every clock below it.
+pub record Keeps : Type 0 where
+  pub by : (p : Program) (l : Layout) (name : ℕ → List ℕ) (q : tree.Program) (named : Named p is_defined name q) (i : ℕ) (f : Function) (b : Stmt) (public : Bool) (temps : List (CKind × ℕ)) (n : ℕ) →
+    IsScalar p → slice_get p.functions i ≡ Some f → f.body ≡ Some b →
+    ((k j : ℕ) (h : Function) → k < n → slice_get p.functions j ≡ Some h → IsTrue h.defined → KeepsAt p l q k j h (named.function j)) →
+    KeepsAt p l q n i f (lowered_fn (around is_defined p f) l name i public f b temps)
