@@ -1,5 +1,5 @@
 -- Programs of scalar functions: what is called fits, and the theorem.
-use Rattle.std.proofs.Common.{◌≡◌, ℕ, zero, suc, List, [], ◌∷◌, refl, sym, subst, ◌∙◌, ◌<◌}
+use Rattle.std.proofs.Common.{◌≡◌, ℕ, zero, suc, List, [], ◌∷◌, refl, sym, subst, ◌∙◌, ◌<◌, length}
 use Rattle.std.specs.Prelude.{Bool, true, false, IsTrue, Option, Some, None, slice_get, nat_lt, if◌then◌else◌}
 use Rattle.mm_meaning.specs.Run.{step, Stops}
 use Rattle.mm_classes.specs.Lists.{Has, first, later}
