@@ -1,0 +1,5 @@
+pub mod Words
+pub mod Entries
+pub mod Scopes
+pub mod Arguments
+pub mod Rules
