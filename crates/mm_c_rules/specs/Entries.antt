@@ -4,6 +4,8 @@ use Rattle.std.specs.Borrow.{Bor}
 use Rattle.mm_c.specs.declared.tree.CKind.{CKind}
 use Rattle.mm_c.specs.declared.tree.CLocal.{CLocal}
 use Rattle.mm_c.specs.declared.tree.CTypedef.{CTypedef}
+use Rattle.mm_c.specs.declared.tree.CCall.{CCall}
+use Rattle.mm_c.specs.declared.tree.CCall.TheVariants.{Named, Element}
 use Rattle.mm_c.specs.declared.tree.CItem.{CItem}
 use Rattle.mm_c.specs.Tree.{Item, typedef, array, proto, function}
 use Rattle.mm_c.specs.View.{item_view}
@@ -49,3 +51,8 @@ table_of before = table_from prelude (map item_view before)
 abbrev pub FoundIn : List CItem → List ℕ → ℕ → Option ℕ → Type 0
 FoundIn before x i None = entry_in (table_of (take i before)) x ≡ entry_in prelude x
 FoundIn before x i (Some j) = (item : CItem) × ((j < length before) × (item ≡ get_or before j item)) × (entry_in (table_of (take i before)) x ≡ Some (entry_by (table_of (take j before)) (item_view item)))
+
+-- the name of what is called, or of the array of which an element is called
+abbrev pub called_name : CCall → List ℕ
+called_name (Named f atoms) = f
+called_name (Element a x atoms) = a

@@ -5,3 +5,5 @@ pub mod entry;
 pub mod here;
 mod names;
 mod operands;
+mod right;
+mod statements;
