@@ -1,9 +1,8 @@
 use Rattle.std.proofs.Common.{ap, ◌∙◌, ◌++◌}
 use Rattle.mm_c.specs.View.{program_view}
-use Rattle.mm_c.specs.Printing.{text_of}
-use Rattle.mm_c.specs.Spelling.{program_tokens}
+use Rattle.mm_c.specs.Printing.{text_of, program_tokens}
 use Rattle.mm_c_print.proofs.Texts.{spells_as}
-use Rattle.mm_c_print.proofs.statements.print.Goals as goal
+use Rattle.mm_c_print.proofs.items.print.Goals as goal
 
 pub returns-clause-spells : goal.returns-clause-spells
 returns-clause-spells c =
