@@ -19,3 +19,4 @@ pub mod Spelled
 pub mod Mentions
 pub mod Scope
 pub mod Wellformed
+pub mod Witness
