@@ -20,3 +20,4 @@ pub mod Mentions
 pub mod Scope
 pub mod Wellformed
 pub mod Witness
+pub mod Decimals
