@@ -27,7 +27,7 @@ module _ (a : Around) (l : Layout) (name : ℕ → List ℕ) (n : ℕ) (result :
 
   in_loop : (h : Here) (b : Bool) → Stands h b → Stands (record h { in_loop = true }) true
   in_loop h b s = record {
-    declares = record { ints = s.declares.ints; words = s.declares.words; pointers = s.declares.pointers; locals = s.declares.locals; put = s.declares.put; get = s.declares.get; more = s.declares.more; trap = s.declares.trap; functions = s.declares.functions; members = s.declares.members };
+    declares = record { ints = s.declares.ints; words = s.declares.words; pointers = s.declares.pointers; locals = s.declares.locals; put = s.declares.put; get = s.declares.get; more = s.declares.more; trap = s.declares.trap; functions = s.declares.functions };
     plain = s.plain;
     gives = s.gives;
     loop = λ t. refl;

@@ -12,22 +12,20 @@ use Rattle.mm_meaning.specs.Run as runs
 use Rattle.mm_meaning.specs.Run.{Run, Gives, Stops}
 use Rattle.mm_classes.specs.declared.class.Ty.{Ty}
 use Rattle.mm_classes.specs.declared.class.Ty.TheVariants as ty
-use Rattle.mm_classes.specs.Subobjects.{Path}
 use Rattle.mm_core.specs.declared.part.Operator.{Operator}
 use Rattle.mm_core.specs.declared.part.Target.{Target}
 use Rattle.mm_core.specs.declared.part.Target.TheVariants as to
 use Rattle.mm_core.specs.declared.part.Change.{Change}
 use Rattle.mm_core.specs.declared.part.Change.TheVariants.{Up, Down}
-use Rattle.mm_core.specs.Tree.{Expr, int, unsigned, bool, local, set_local, field, convert, binary, negation, both, either, choose, call, builtin, step_local, Exprs, no_exprs, expr_and}
-use Rattle.mm_core.specs.Heads.{type_at, is_reference, argument_types, class_in, same_type, class_shown, field_type}
+use Rattle.mm_core.specs.Tree.{Expr, int, unsigned, bool, local, set_local, convert, binary, negation, both, either, choose, call, builtin, step_local, Exprs, no_exprs, expr_and}
+use Rattle.mm_core.specs.Heads.{type_at, is_reference, argument_types, class_in, same_type}
 use Rattle.mm_core.specs.State as source
 use Rattle.mm_core.specs.State.{Value, Truth, Number, Word, Null, At, Nothing, Object, State, Store, with_local, or_trap, outside, at_once, object_at, class_of}
 use Rattle.mm_core.specs.Scalar.{is_true, converted, operate, changed, number_or}
-use Rattle.mm_core.specs.Objects.{get_field}
 use Rattle.mm_core.specs.Virtual.{Calls}
-use Rattle.mm_core.specs.Meaning.{Setting, ask, answered, does, put_local, value_of, values_of}
-use Rattle.mm_core.specs.Valid.{type_of, types_of, type_of_target, compares, is_number, is_arithmetic, is_pointer, as_pointer, types_asked, type_answered, result_of_function, Suits, AllSuit, AreOperands, Converts, AreBranches, IsValid, AreValid, IsFieldOf}
-use Rattle.mm_core.specs.Fits.{Shows, Fits, AllFit}
+use Rattle.mm_core.specs.Meaning.{Setting, ask, answered, put_local, value_of, values_of}
+use Rattle.mm_core.specs.Valid.{type_of, types_of, type_of_target, compares, is_number, is_arithmetic, is_pointer, as_pointer, types_asked, type_answered, result_of_function, Suits, AllSuit, AreOperands, Converts, AreBranches, IsValid, AreValid}
+use Rattle.mm_core.specs.Fits.{Fits, AllFit}
 use Rattle.mm_core.proofs.Scalars.{converted_fits}
 use Rattle.mm_core.proofs.Heap.{suits_fits}
 use Rattle.mm_core.specs.Keeps.{On, Known, Gave}
@@ -39,13 +37,12 @@ use Rattle.mm_c.specs.declared.tree.CAtom.{CAtom}
 use Rattle.mm_c.specs.declared.tree.CAtom.TheVariants.{Name, Least, Negative}
 use Rattle.mm_c.specs.declared.tree.COperator.TheVariants as o
 use Rattle.mm_c.specs.declared.tree.CExpr.{CExpr}
-use Rattle.mm_c.specs.declared.tree.CExpr.TheVariants.{Atom, Binary, ToInt, ToUnsigned, Load}
+use Rattle.mm_c.specs.declared.tree.CExpr.TheVariants.{Atom, Binary, ToInt, ToUnsigned}
 use Rattle.mm_c.specs.declared.tree.CCall.TheVariants.{Named}
-use Rattle.mm_c.specs.Memory as memory
 use Rattle.mm_c.specs.CMeaning as c
 use Rattle.mm_c.specs.CMeaning.{bit_of, Flow, Next, flows_of}
 use Rattle.mm_c.specs.Tree.{Code, done, ◌⨾◌}
-use Rattle.mm_agree.specs.Agree.{Agree, both_give, both_stop, kind_of, cell_of, result_in_c, States, OneWorld, SameResult, Alike, CallsAgree, HasPrelude}
+use Rattle.mm_agree.specs.Agree.{Agree, both_give, both_stop, kind_of, result_in_c, States, OneWorld, SameResult, Alike, CallsAgree, HasPrelude}
 use Rattle.mm_agree.proofs.Values.{received, fits_stands}
 use Rattle.mm_agree.proofs.Steps.{SameWorld, AgreeOn, after, agree_weaken, agree_on, agree_map, either_code, if_last, only_last, agree_ran, gives_ran, set_ran, copy_gives, op_gives, with_value}
 use Rattle.mm_simulate.specs.Names.{temporary, named}
@@ -624,28 +621,6 @@ module _ (m : Frame) (calls : Calls) (around : c.Around) (has : HasPrelude aroun
           no_reference : (t : Ty) → IsTrue (is_number t) → IsTrue (is_reference t) → ⊥
           no_reference t n r = reference_is t n r
 
-  -- ---- fields
-
-  -- a field of the subobject that a pointer shows, whose class is that of the pointer
-  field_at : (t f d o' : ℕ) (q : Path) (old : c.Names) (s : Store) (u : c.Store) (k : ℕ) → IsFine s → Stores m s u → Keeps m t old u → Shows (g m) s.state.objects d o' q → IsFieldOf (g m) d f → u.names (p_ t) ≡ c_value m s.state.objects (At o' q) → AgreeOn (Holds m t old (field_type (g m) d f)) (does (get_field f (At o' q)) s k) (flows_of around (set (of_ (field_type (g m) d f) t) (Load (cell_of (field_type (g m) d f)) (record { pointer = p_ t; offset = record { value = m.layout.member d f; is_unsigned = false } }))) u k)
-  field_at t f d o' q old s u k fine h keeps shows is e =
-      let at = h.states.heap.each o' shows.there in
-      let loaded : memory.load u.state.memory (cell_of (field_type (g m) d f)) (u.names (p_ t)) (m.layout.member d f) ≡ Some (c_value m s.state.objects ((object_at s.state.objects o').fields q f)) =
-          rw e (rw at.1 (subst (λ z. memory.load_in (cell_of (field_type (g m) z f)) (m.layout.offset (class_of s.state.objects o') q + m.layout.member z f) (Some at.0) ≡ Some (c_value m s.state.objects ((object_at s.state.objects o').fields q f))) shows.ends (at.2.cell q f shows.part (subst (λ z. IsFieldOf (g m) z f) (sym shows.ends) is)))) in
-      let fits : Fits (g m) s.state.objects (field_type (g m) d f) ((object_at s.state.objects o').fields q f) = subst (λ z. Fits (g m) s.state.objects (field_type (g m) z f) ((object_at s.state.objects o').fields q f)) shows.ends (fine.state.fields o' f q shows.there shows.part) in
-      set_agrees m around t old (field_type (g m) d f) ((object_at s.state.objects o').fields q f) s u k (Load (cell_of (field_type (g m) d f)) (record { pointer = p_ t; offset = record { value = m.layout.member d f; is_unsigned = false } })) (one_gives t old s u k keeps h _ _ loaded) fits keeps h
-
-  field_value : (t f d : ℕ) (v : Value) (old : c.Names) (s : Store) (u : c.Store) (k : ℕ) → IsFine s → Stores m s u → Keeps m t old u → Fits (g m) s.state.objects (ty.Ref d) v → IsFieldOf (g m) d f → u.names (p_ t) ≡ c_value m s.state.objects v → AgreeOn (Holds m t old (field_type (g m) d f)) (does (get_field f v) s k) (flows_of around (set (of_ (field_type (g m) d f) t) (Load (cell_of (field_type (g m) d f)) (record { pointer = p_ t; offset = record { value = m.layout.member d f; is_unsigned = false } }))) u k)
-  field_value t f d (At o' q) old s u k fine h keeps fits is e = field_at t f d o' q old s u k fine h keeps fits is e
-  field_value t f d v old s u k fine h keeps fits is e = absurd fits
-
-  field_agrees : (f : ℕ) (e : Expr) → Claim e → Claim (field f e)
-  field_agrees f e ih t s u k low valid fine h =
-      after around (code t e) _ _ _ _ _ u k (full e ih t s u k low valid.1 fine h) (λ v s1 u1 k1 p.
-      let d = valid.0.0 in let is : type_of (a m) e ≡ ty.Ref d = valid.0.1.0 in
-      subst (λ z. AgreeOn (Holds m t u.names (field_type (g m) (class_shown z) f)) (does (get_field f v) s1 k1) (flows_of around (set (of_ (field_type (g m) (class_shown z) f) t) (Load (cell_of (field_type (g m) (class_shown z) f)) (record { pointer = p_ t; offset = record { value = m.layout.member (class_shown z) f; is_unsigned = false } }))) u1 k1)) (sym is)
-      (field_value t f d v u.names s1 u1 k1 p.1.fine p.0.stores p.0.kept (as_fits (type_of (a m) e) (ty.Ref d) s1.state.objects v is p.1.fits) valid.0.2 (value_at t u.names (type_of (a m) e) (ty.Ref d) v s1 u1 (is_same _ _ is) refl p.0)))
-
   -- ---- all nodes
 
   mutual
@@ -655,7 +630,6 @@ module _ (m : Frame) (calls : Calls) (around : c.Around) (has : HasPrelude aroun
     expr_agrees (bool b) = bool_agrees b
     expr_agrees (local x) = local_agrees x
     expr_agrees (set_local x e) = set_local_agrees x e (expr_agrees e)
-    expr_agrees (field f e) = field_agrees f e (expr_agrees e)
     expr_agrees (convert x e) = convert_node_agrees x e (expr_agrees e)
     expr_agrees (binary op d e) = binary_agrees op d e (expr_agrees d) (expr_agrees e)
     expr_agrees (negation e) = negation_agrees e (expr_agrees e)

@@ -8,7 +8,7 @@ use Rattle.mm_core.specs.declared.part.Operator.TheVariants as by
 use Rattle.mm_core.specs.declared.part.Target.{Target}
 use Rattle.mm_core.specs.declared.part.Target.TheVariants as to
 use Rattle.mm_core.specs.declared.part.Change.{Change}
-use Rattle.mm_core.specs.Tree.{Expr, int, unsigned, bool, local, set_local, field, convert, binary, negation, both, either, choose, call, builtin, step_local, Exprs, no_exprs, expr_and, Stmt, block, run, if_else, while_do, do_while, for_do, break, continue, return_nothing, return, Stmts, no_stmts, stmt_and}
+use Rattle.mm_core.specs.Tree.{Expr, int, unsigned, bool, local, set_local, convert, binary, negation, both, either, choose, call, builtin, step_local, Exprs, no_exprs, expr_and, Stmt, block, run, if_else, while_do, do_while, for_do, break, continue, return_nothing, return, Stmts, no_stmts, stmt_and}
 use Rattle.mm_core.specs.Valid.{Around, type_of, type_answered}
 use Rattle.mm_core.specs.Heads.{type_at}
 use Rattle.mm_c.specs.declared.tree.CExpr.{CExpr}
@@ -150,7 +150,6 @@ module _ (a : Around) (l : Layout) (name : ℕ → List ℕ) where
     small_expr (bool b) t = small_set _ _
     small_expr (local x) t = small_set _ _
     small_expr (set_local x e) t = small_then (lowered a l name t e) _ (small_expr e t) (small_set _ _)
-    small_expr (field f e) t = small_then (lowered a l name t e) _ (small_expr e t) (small_set _ _)
     small_expr (convert x e) t = small_then (lowered a l name t e) _ (small_expr e t) (few _ (small_conversion t x (type_of a e)))
     small_expr (binary op d e) t = small_then (lowered a l name t d) _ (part _ (omega arith) (small_expr d t)) (small_then (lowered a l name (suc t) e) _ (part _ (omega arith) (small_expr e (suc t))) (few _ (small_operator t op (type_of a d) (type_of a (binary op d e)))))
     small_expr (negation e) t = small_then (lowered a l name t e) _ (small_expr e t) (small_set _ _)

@@ -219,11 +219,7 @@ module _ (p : Program) (l : Layout) (temps : ℕ → List (CKind × ℕ)) (scala
         more = prel.more;
         trap = prel.trap;
         functions = λ i f e closed ok. (let b = body_of p is_defined f f.defined f.body ok refl (valid_at i f e).body in listed (defined_as i f b.stmt) (complete p i f b.stmt e b.is));
-        members = λ c f is. absurd (let z = no_member p.classes c f scalar.classes in let y = is.1 in let w : ⊥ = cc in w);
       }
-        where
-          no_member : (g : List Rattle.mm_classes.specs.Classes.Class) (c n : ℕ) → g ≡ [] → slice_get (Rattle.mm_classes.specs.Classes.members_of g c) n ≡ None
-          no_member g c n e = subst (λ g. slice_get (Rattle.mm_classes.specs.Classes.members_of g c) n ≡ None) (sym e) refl
 
       has_stmt : HasBody p is_defined d.function
       has_stmt = body_of p is_defined d.function d.function.defined d.function.body (defined_is d.function.defined d.function.body refl (valid_at d.number d.function at.there).body) refl (valid_at d.number d.function at.there).body

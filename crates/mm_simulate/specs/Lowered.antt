@@ -11,8 +11,8 @@ use Rattle.mm_core.specs.declared.part.Target.{Target}
 use Rattle.mm_core.specs.declared.part.Target.TheVariants as to
 use Rattle.mm_core.specs.declared.part.Change.{Change}
 use Rattle.mm_core.specs.declared.part.Change.TheVariants.{Up, Down}
-use Rattle.mm_core.specs.Tree.{Expr, int, unsigned, bool, local, set_local, field, convert, binary, negation, both, either, choose, call, builtin, step_local, Exprs, no_exprs, expr_and, Stmt, block, run, if_else, while_do, do_while, for_do, break, continue, return_nothing, return, Stmts, no_stmts, stmt_and, Function, Program}
-use Rattle.mm_core.specs.Heads.{is_main, type_at, class_shown, argument_types}
+use Rattle.mm_core.specs.Tree.{Expr, int, unsigned, bool, local, set_local, convert, binary, negation, both, either, choose, call, builtin, step_local, Exprs, no_exprs, expr_and, Stmt, block, run, if_else, while_do, do_while, for_do, break, continue, return_nothing, return, Stmts, no_stmts, stmt_and, Function, Program}
+use Rattle.mm_core.specs.Heads.{is_main, type_at, argument_types}
 use Rattle.mm_core.specs.ValidProgram.{around}
 use Rattle.mm_core.specs.Run.{number_of_main}
 use Rattle.mm_core.specs.Valid.{Around, type_of, type_answered, is_pointer}
@@ -23,14 +23,14 @@ use Rattle.mm_c.specs.declared.tree.CAtom.TheVariants.{Name, Number, Negative, L
 use Rattle.mm_c.specs.declared.tree.COperator.{COperator}
 use Rattle.mm_c.specs.declared.tree.COperator.TheVariants as o
 use Rattle.mm_c.specs.declared.tree.CExpr.{CExpr}
-use Rattle.mm_c.specs.declared.tree.CExpr.TheVariants.{Atom, Binary, ToInt, ToUnsigned, Load, Call}
+use Rattle.mm_c.specs.declared.tree.CExpr.TheVariants.{Atom, Binary, ToInt, ToUnsigned, Call}
 use Rattle.mm_c.specs.declared.tree.CCall.{CCall}
 use Rattle.mm_c.specs.declared.tree.CCall.TheVariants.{Named}
 use Rattle.mm_c.specs.declared.tree.CLocal.{CLocal}
 use Rattle.mm_c.specs.declared.tree.CLinkage.TheVariants.{Public, Static}
 use Rattle.mm_c.specs.Tree as c
 use Rattle.mm_c.specs.Tree.{Code, done, do_then, ◌⨾◌, just}
-use Rattle.mm_agree.specs.Agree.{Layout, kind_of, cell_of}
+use Rattle.mm_agree.specs.Agree.{Layout, kind_of}
 use Rattle.mm_simulate.specs.Names.{temporary, named, function_named}
 use Rattle.mm_simulate.specs.Names as name
 
@@ -260,10 +260,6 @@ module _ (a : Around) (l : Layout) (named_of : ℕ → List ℕ) where
     lowered t (bool b) = set (i_ t) (Atom (plain (bit b)))
     lowered t (local x) = set (of_ (type_at a.locals x) t) (Atom (Name (v_ x)))
     lowered t (set_local x e) = lowered t e ⨾ set (v_ x) (Atom (Name (of_ (type_of a e) t)))
-    lowered t (field f e) = lowered t e ⨾ set (of_ (type_of a (field f e)) t)
-        (Load (cell_of (type_of a (field f e)))
-        (record { pointer = p_ t; offset = record { value = l.member (class_shown (type_of a e)) f;
-        is_unsigned = false } }))
     lowered t (convert x e) = lowered t e ⨾ conversion t x (type_of a e)
     lowered t (binary op d e) = lowered t d ⨾
         (lowered (suc t) e ⨾ operator t op (type_of a d) (type_of a (binary op d e)))
@@ -313,7 +309,6 @@ module _ (a : Around) (l : Layout) (named_of : ℕ → List ℕ) where
 abbrev mutual
   pub reach : Expr → ℕ
   reach (set_local x e) = reach e
-  reach (field f e) = reach e
   reach (convert x e) = reach e
   reach (binary op d e) = max (reach d) (max (suc (reach e)) 3)
   reach (negation e) = reach e
@@ -349,7 +344,6 @@ abbrev mutual
 abbrev mutual
   pub nesting : Expr → ℕ
   nesting (set_local x e) = nesting e
-  nesting (field f e) = nesting e
   nesting (convert x e) = nesting e
   nesting (binary op d e) = max (nesting d) (nesting e)
   nesting (negation e) = nesting e
@@ -492,7 +486,6 @@ module _ (a : Around) where
     IsLowered (bool b) = Unit {0}
     IsLowered (local x) = Unit {0}
     IsLowered (set_local x e) = IsLowered e
-    IsLowered (field f e) = IsLowered e
     IsLowered (convert x e) = IsLowered e
     IsLowered (binary op d e) = (is_pointer (type_of a d) ≡ false) × IsLowered d × IsLowered e
     IsLowered (negation e) = IsLowered e
