@@ -31,7 +31,7 @@ use Rattle.mm_core.specs.Valid.{Around, type_of, types_of, compares, is_number, 
 use Rattle.mm_agree.specs.Agree.{Layout, kind_of, cell_of}
 use Rattle.mm_simulate.proofs.Stores.{is_void}
 use Rattle.mm_simulate.proofs.Nodes.{suits_same}
-use Rattle.mm_simulate.specs.Lowered.{plain, word, greatest, minus_one, i_, u_, p_, v_, of_, set, only_if, if_or, trap_code, overflow_if, test_by, sum_test, difference_test, bound_test, minus_test, product_test, zero_trap, unless_over, on_int, on_word, int_atom, conversion, step_end, change_in_c, step_code, called_for, builtin_name, operator, atoms_from, kind_of_result, lowered, lowered_all, reach, reach_all, IsLowered, AreLowered, block_of}
+use Rattle.mm_simulate.specs.Lowered.{plain, word, greatest, minus_one, i_, u_, p_, v_, of_, set, only_if, if_or, trap_code, overflow_if, test_by, sum_test, difference_test, bound_test, minus_test, product_test, zero_trap, unless_over, on_int, on_word, int_atom, conversion, step_end, change_in_c, step_code, called_for, builtin_name, operator, atoms_from, kind_of_result, lowered, lowered_all, reach, reach_all, IsLowered, AreLowered, block_of, effect, step_only}
 
 or_true : (a b : Bool) → b ≡ true → (a || b) ≡ true
 or_true true b e = refl
@@ -252,6 +252,17 @@ module _ (h : Here) (a : Around) (l : Layout) (name : ℕ → List ℕ) (n : ℕ
     changes Up = refl
     changes Down = refl
 
+    fit_step_only : (type : Ty) (t x : ℕ) (change : Change) → t < n → IsTrue (is_number type) → kind_in h.scope (v_ x) ≡ Some (kind_of type) → Fit h (step_only t x change type)
+    fit_step_only ty.Int t x change low is e =
+        let fv = name_fits h kind.Int (v_ x) e in
+        fit_then h (set (i_ t) (Binary (Name (v_ x)) o.Equal (step_end change))) _ (fit_set h (i_ t) kind.Int _ (ok.ints t low) (ints_fit h (Name (v_ x)) (step_end change) o.Equal fv (step_fits change)))
+        (fit_then h (overflow_if (i_ t)) _ (only_fits h (i_ t) _ (ok.ints t low) (fit_trap h ok.trap 1 refl)) (fit_set h (v_ x) kind.Int _ e (ints_fit h (Name (v_ x)) (plain 1) (change_in_c change) fv refl)))
+    fit_step_only ty.Unsigned t x change low is e = fit_set h (v_ x) kind.Unsigned _ e (words_fit h (Name (v_ x)) (word 1) (change_in_c change) (changes change) (name_fits h kind.Unsigned (v_ x) e) refl)
+    fit_step_only ty.Void t x change low is e = cc
+    fit_step_only ty.Bool t x change low is e = cc
+    fit_step_only (ty.Ptr d) t x change low is e = cc
+    fit_step_only (ty.Ref d) t x change low is e = cc
+
     fit_step : (type : Ty) (t x : ℕ) (change : Change) → suc t < n → IsTrue (is_number type) → kind_in h.scope (v_ x) ≡ Some (kind_of type) → Fit h (step_code t x change type)
     fit_step ty.Int t x change low is e =
         let low' : t < n = omega arith in
@@ -343,3 +354,11 @@ module _ (h : Here) (a : Around) (l : Layout) (name : ℕ → List ℕ) (n : ℕ
         pub exprs_fit : (es : Exprs) (t : ℕ) → AreLowered a es → AreValid a known es → t + reach_all es ≤ n → Fit h (lowered_all a l name t es)
         exprs_fit no_exprs t low valid le = fit_done h
         exprs_fit (expr_and e es) t low valid le = fit_then h (lowered a l name t e) _ (expr_fits e t low.0 valid.0 (omega arith)) (exprs_fit es (suc t) low.1 valid.1 (omega arith))
+
+      pub effect_fits : (e : Expr) (t : ℕ) → IsLowered a e → IsValid a known e → t + reach e ≤ n → Fit h (effect a l name t e)
+      effect_fits (call f es) t low valid le =
+          let v = valid.0 in
+          fit_then h (lowered_all a l name t es) _ (exprs_fit es t low valid.1 (omega arith)) (run_fits (name f) v.0.result (argument_types a.classes v.0) (types_of a es) es t (there f v.0 v.1 v.2 v.3) refl v.4 (omega arith))
+      effect_fits (builtin b es) t low valid le = fit_then h (lowered_all a l name t es) _ (exprs_fit es t low valid.1 (omega arith)) (run_fits (builtin_name b) (type_answered b) (types_asked b) (types_of a es) es t (asked b) refl valid.0 (omega arith))
+      effect_fits (step_local x change) t low valid le = fit_step_only (type_at a.locals x) t x change (omega arith) valid.1 (ok.locals x valid.0)
+      effect_fits e t low valid le = expr_fits e t low valid le

@@ -15,7 +15,7 @@ use Rattle.mm_core.specs.Valid.{Around, type_of, sets, IsValidStmt, AreValidStmt
 use Rattle.mm_agree.specs.Agree.{Layout, kind_of}
 use Rattle.mm_simulate.specs.Lowered.{plain, i_, of_, set, only_if, break_unless, flagged, kind_of_result, lowered, lowered_stmt, lowered_stmts, reach_stmt, reach_stmts, IsLoweredStmt, AreLoweredStmts, step_in, looped, block_of}
 use Rattle.mm_simulate.proofs.Nodes.{suits_same}
-use Rattle.mm_simulate.proofs.Fitting.{Declares, if_fits, only_fits, of_fits, expr_fits, reach_some}
+use Rattle.mm_simulate.proofs.Fitting.{Declares, if_fits, only_fits, of_fits, expr_fits, reach_some, effect_fits}
 
 module _ (a : Around) (l : Layout) (name : ℕ → List ℕ) (n : ℕ) (result : Ty) where
   -- where a statement stands
@@ -74,7 +74,7 @@ module _ (a : Around) (l : Layout) (name : ℕ → List ℕ) (n : ℕ) (result :
   mutual
     pub stmt_fits : (s : Stmt) (h : Here) (b : Bool) (known : List ℕ) (t : ℕ) → Stands h b → IsLoweredStmt a s → IsValidStmt a result b known s → t + reach_stmt s ≤ n → Fit h (lowered_stmt a l name t s)
     stmt_fits (block ss) h b known t st low valid le = stmts_fit ss h b known t st low valid le
-    stmt_fits (run e) h b known t st low valid le = expr_fits h a l name n st.declares known e t low valid le
+    stmt_fits (run e) h b known t st low valid le = effect_fits h a l name n st.declares known e t low valid le
     stmt_fits (if_else e ss ts) h b known t st low valid le =
         fit_then h (lowered a l name t e) _ (expr_fits h a l name n st.declares known e t low.0 valid.0.1 (omega arith))
         (if_fits h (i_ t) _ _ (st.declares.ints t (omega (arith, reach_some e))) (stmts_fit ss h b known t st low.1 valid.1 (omega arith)) (stmts_fit ts h b known t st low.2 valid.2 (omega arith)))

@@ -18,7 +18,7 @@ use Rattle.mm_c.specs.Tree as c
 use Rattle.mm_c.specs.Tree.{Code, done, do_then, ◌⨾◌, just}
 use Rattle.mm_c.specs.WellFormed.{code_locals, stmt_locals, code_depth}
 use Rattle.mm_agree.specs.Agree.{Layout}
-use Rattle.mm_simulate.specs.Lowered.{block_of, set, only_if, if_or, i_, on_int, on_word, operator, conversion, step_code, called_for, builtin_name, atoms_from, break_unless, flagged, step_in, looped, lowered, lowered_all, lowered_stmt, lowered_stmts, ending, nesting, nesting_all, nesting_stmt, nesting_stmts}
+use Rattle.mm_simulate.specs.Lowered.{block_of, set, only_if, if_or, i_, on_int, on_word, operator, conversion, step_code, called_for, builtin_name, atoms_from, break_unless, flagged, step_in, looped, lowered, lowered_all, lowered_stmt, lowered_stmts, ending, nesting, nesting_all, nesting_stmt, nesting_stmts, effect, step_only}
 
 -- three more for an operator
 pub record Small (n : ℕ) (xs : Code) : Type 0 where
@@ -113,6 +113,14 @@ small_step t x change ty.Int = record { deep = omega arith; bare = refl }
 small_step t x change (ty.Ptr d) = record { deep = omega arith; bare = refl }
 small_step t x change (ty.Ref d) = record { deep = omega arith; bare = refl }
 
+small_step_only : (t x : ℕ) (change : Change) (type : Ty) → Small 0 (step_only t x change type)
+small_step_only t x change ty.Unsigned = record { deep = omega arith; bare = refl }
+small_step_only t x change ty.Void = record { deep = omega arith; bare = refl }
+small_step_only t x change ty.Bool = record { deep = omega arith; bare = refl }
+small_step_only t x change ty.Int = record { deep = omega arith; bare = refl }
+small_step_only t x change (ty.Ptr d) = record { deep = omega arith; bare = refl }
+small_step_only t x change (ty.Ref d) = record { deep = omega arith; bare = refl }
+
 small_called : (t : ℕ) (type : Ty) (r : CCall) → Small 0 (called_for t type r)
 small_called t ty.Void r = record { deep = omega arith; bare = refl }
 small_called t ty.Bool r = small_set _ _
@@ -165,6 +173,12 @@ module _ (a : Around) (l : Layout) (name : ℕ → List ℕ) where
     small_exprs no_exprs t = small_done
     small_exprs (expr_and e es) t = small_then (lowered a l name t e) _ (part _ (omega arith) (small_expr e t)) (part _ (omega arith) (small_exprs es (suc t)))
 
+  small_effect : (e : Expr) (t : ℕ) → Small (nesting e) (effect a l name t e)
+  small_effect (call f es) t = small_then (lowered_all a l name t es) _ (small_exprs es t) (record { deep = omega arith; bare = refl })
+  small_effect (builtin b es) t = small_then (lowered_all a l name t es) _ (small_exprs es t) (record { deep = omega arith; bare = refl })
+  small_effect (step_local x change) t = few _ (small_step_only t x change (type_at a.locals x))
+  small_effect e t = small_expr e t
+
   small_unless : {n : ℕ} (x : List ℕ) → Small n (break_unless x)
   small_unless x = record { deep = omega arith; bare = refl }
 
@@ -185,7 +199,7 @@ module _ (a : Around) (l : Layout) (name : ℕ → List ℕ) where
   mutual
     pub small_stmt : (s : Stmt) (t : ℕ) → Small (nesting_stmt s) (lowered_stmt a l name t s)
     small_stmt (block ss) t = small_stmts ss t
-    small_stmt (run e) t = small_expr e t
+    small_stmt (run e) t = small_effect e t
     small_stmt (if_else e ss ts) t = small_then (lowered a l name t e) _ (part _ (omega arith) (small_expr e t)) (small_if (i_ t) _ _ (max (nesting_stmts ss) (nesting_stmts ts)) (omega arith) (part _ (omega arith) (small_stmts ss t)) (part _ (omega arith) (small_stmts ts t)))
     small_stmt (while_do e ss) t = small_forever _ (max (nesting e) (nesting_stmts ss)) (omega arith) (turn e ss t (max (nesting e) (nesting_stmts ss)) (part _ (omega arith) (small_expr e t)) (part _ (omega arith) (small_stmts ss t)))
     small_stmt (do_while ss e) t =

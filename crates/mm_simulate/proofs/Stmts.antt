@@ -31,7 +31,7 @@ use Rattle.mm_simulate.specs.Lowered.{plain, block_of, i_, set, only_if, break_u
 use Rattle.mm_simulate.proofs.Names.{written}
 use Rattle.mm_simulate.proofs.Stores.{Frame, a, c_value, Stores, Keeps, Holds, stores_temporary, keeps_temporary, core}
 use Rattle.mm_simulate.proofs.Nodes as nodes
-use Rattle.mm_simulate.proofs.Nodes.{AllSolid, suits_same, Same, full, expr_agrees, bit_in, decided, not_void}
+use Rattle.mm_simulate.proofs.Nodes.{AllSolid, suits_same, Same, full, expr_agrees, bit_in, decided, not_void, effect_agrees}
 
 -- the same way on
 abbrev pub flow_in_c : Frame → Ty → List Object → Flow → c.Flow
@@ -108,7 +108,7 @@ module _ (m : Frame) (calls : Calls) (around : c.Around) (has : HasPrelude aroun
   stays t flow s u old keeps h = record { on = refl; kept = keeps; stores = h }
 
   run_agrees : (e : Expr) → Claim (run e)
-  run_agrees e in_loop known t s u k low valid fine h = agree_map (λ v. Next) (value_agrees known e t s u k low valid fine h) (λ v s1 flow u1 p. record { on = p.0; kept = p.1.0.kept; stores = p.1.0.stores })
+  run_agrees e in_loop known t s u k low valid fine h = agree_map (λ v. Next) (effect_agrees m calls around has known ok agree e t s u k low valid fine h) (λ v s1 flow u1 p. record { on = p.0; kept = p.1.0; stores = p.1.1 })
 
   if_agrees : (e : Expr) (ss ts : Stmts) → ClaimAll ss → ClaimAll ts → Claim (if_else e ss ts)
   if_agrees e ss ts ihs iht in_loop known t s u k low valid fine h =
@@ -309,7 +309,7 @@ module _ (m : Frame) (calls : Calls) (around : c.Around) (has : HasPrelude aroun
           (agree_weaken (ih true known (suc t) s (flag t u false) k low valid fine (flag_stores t s u false h)) (λ flow s1 flow' u1 p. let d = did_under t false u.names flow s1 flow' (flag t u false) u1 (flag_keeps t u.names u false (λ j x below. refl)) (written u.names (i_ t) (holds.Int (bit_of false))) p in (d.0, λ q. d.1)))
 
       at : (st : Stmt) → Claim st → IsLoweredStmt (a m) st → IsValid' true known st → (s : Store) (u : c.Store) (k : ℕ) → IsFine known s → Stores m s u → Is t true u → Agree SameWorld (λ flow s' flow' u'. Did m result t u.names flow s' flow' u' × (flow ≡ Continued → Is t false u')) (flow_of w m.types st s k) (c.flows_of around (step_in t st (code_of (suc t) st)) u k)
-      at (run e) ih low valid s u k fine h is = agree_map (λ v. Next) (value_agrees known e (suc t) s u k low valid fine h) (λ v s1 flow u1 p. ((did_under t true u.names Next s1 flow u u1 (λ j x below. refl) is (record { on = p.0; kept = p.1.0.kept; stores = p.1.0.stores })).0, λ q. cc))
+      at (run e) ih low valid s u k fine h is = agree_map (λ v. Next) (effect_agrees m calls around has known ok agree e (suc t) s u k low valid fine h) (λ v s1 flow u1 p. ((did_under t true u.names Next s1 flow u u1 (λ j x below. refl) is (record { on = p.0; kept = p.1.0; stores = p.1.1 })).0, λ q. cc))
       at st ih low valid s u k fine h is = reset st ih low valid s u k fine h
 
   for_agrees : (e : Expr) (st : Stmt) (ss : Stmts) → Claim st → ClaimAll ss → Claim (for_do e st ss)

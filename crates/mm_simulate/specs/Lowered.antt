@@ -215,6 +215,14 @@ step_code t x change other =
     overflow_if (i_ (suc t)) ⨾
     set (v_ x) (Binary (Name (v_ x)) (change_in_c change) (plain 1))
 
+-- the same, where the old value is not used
+abbrev pub step_only : ℕ → ℕ → Change → Ty → Code
+step_only t x change ty.Unsigned = set (v_ x) (Binary (Name (v_ x)) (change_in_c change) (word 1))
+step_only t x change other =
+    set (i_ t) (Binary (Name (v_ x)) o.Equal (step_end change)) ⨾
+    overflow_if (i_ t) ⨾
+    set (v_ x) (Binary (Name (v_ x)) (change_in_c change) (plain 1))
+
 -- a call, whose result goes to t where there is one
 abbrev pub called_for : ℕ → Ty → CCall → Code
 called_for t ty.Void r = just (c.run r)
@@ -279,12 +287,19 @@ module _ (a : Around) (l : Layout) (named_of : ℕ → List ℕ) where
     lowered_all t no_exprs = done
     lowered_all t (expr_and e es) = lowered t e ⨾ lowered_all (suc t) es
 
+  -- an expression whose value is not used: neither the result of a call nor a step's old value is kept
+  abbrev pub effect : ℕ → Expr → Code
+  effect t (call f es) = lowered_all t es ⨾ just (c.run (Named (named_of f) (atoms_from t es)))
+  effect t (builtin b es) = lowered_all t es ⨾ just (c.run (Named (builtin_name b) (atoms_from t es)))
+  effect t (step_local x change) = step_only t x change (type_at a.locals x)
+  effect t e = lowered t e
+
   -- ---- statements
 
   abbrev mutual
     pub lowered_stmt : ℕ → Stmt → Code
     lowered_stmt t (block ss) = lowered_stmts t ss
-    lowered_stmt t (run e) = lowered t e
+    lowered_stmt t (run e) = effect t e
     lowered_stmt t (if_else e ss ts) = lowered t e ⨾
         if_or (i_ t) (lowered_stmts t ss) (lowered_stmts t ts)
     lowered_stmt t (while_do e ss) = just (c.forever
