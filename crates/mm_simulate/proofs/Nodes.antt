@@ -246,11 +246,14 @@ module _ (m : Frame) (calls : Calls) (around : c.Around) (has : HasPrelude aroun
       let n = c_value m s1.state.objects v in
       gives_ran around _ (put_local x v s1 k1) (set (v_ x) (Atom (Name (of_ (type_of (a m) e) t)))) u1 k1
       (set_ran around (v_ x) (Atom (Name (of_ (type_of (a m) e) t))) n u1 k1 (copy_gives around u1 k1 (Name (of_ (type_of (a m) e) t)) n (p.0.value (solid (type_of (a m) e) (type_at m.types x) valid.1))) (received_by m s1.state.objects x v s1 u1 valid.0 p.0.stores fits))
-      (both_give (refl, record {
-        value = λ void. kept u1.names (name.local x) (temporary (kind_of (type_at m.types x)) t) n refl ∙ value_at t u.names (type_of (a m) e) (type_at m.types x) v s1 u1 is void p.0;
-        kept = keeps_local m x n t u.names u1 p.0.kept;
-        stores = stores_local m x v s1 u1 (fits_stands (g m) m.layout s1.state.objects (type_at m.types x) v fits) p.0.stores;
-      })))
+      (both_give (
+        refl,
+        record {
+          value = λ void. kept u1.names (name.local x) (temporary (kind_of (type_at m.types x)) t) n refl ∙ value_at t u.names (type_of (a m) e) (type_at m.types x) v s1 u1 is void p.0;
+          kept = keeps_local m x n t u.names u1 p.0.kept;
+          stores = stores_local m x v s1 u1 (fits_stands (g m) m.layout s1.state.objects (type_at m.types x) v fits) p.0.stores;
+        },
+      )))
 
   -- ---- conversions
 
@@ -587,16 +590,19 @@ module _ (m : Frame) (calls : Calls) (around : c.Around) (has : HasPrelude aroun
         (trap_unless around has _ (step_rest x (Number z) s k (number_or (int_of (stepped change z)))) s u2 k by.Overflow (suc t) b last refl test.bit h2.states.world
         (λ d. rw (step_over (stepped change z) d) refl)
         (λ d.
-            let int = unflip (is_int (stepped change z)) d in
-            let v = Number (stepped change z) in
-            rw (step_ok (stepped change z) int)
-            (gives_ran around _ (step_rest x (Number z) s k (Ok v)) last u2 k
-            (set_ran around (v_ x) (Binary (Name (v_ x)) (change_in_c change) (plain 1)) (holds.Int (stepped change z)) u2 k (int_op around (suc t) k u2 (Name (v_ x)) (plain 1) (change_in_c change) z (pos 1) (holds.Int (stepped change z)) e2 refl (step_gives change z ∙ exact_some (stepped change z) int)) (received_by m s.state.objects x (Number (stepped change z)) s u2 low h2 (subst (λ y. Fits (g m) s.state.objects y (Number (stepped change z))) (sym is) int)))
-            (both_give (refl, record {
-              value = λ void. kept u2.names (name.local x) (temporary kind.Int t) (holds.Int (stepped change z)) refl ∙ at2;
-              kept = keeps_local m x (holds.Int (stepped change z)) t u.names u2 keeps2;
-              stores = stores_local m x v s u2 tt h2;
-            })))))))
+        let int = unflip (is_int (stepped change z)) d in
+        let v = Number (stepped change z) in
+        rw (step_ok (stepped change z) int)
+        (gives_ran around _ (step_rest x (Number z) s k (Ok v)) last u2 k
+        (set_ran around (v_ x) (Binary (Name (v_ x)) (change_in_c change) (plain 1)) (holds.Int (stepped change z)) u2 k (int_op around (suc t) k u2 (Name (v_ x)) (plain 1) (change_in_c change) z (pos 1) (holds.Int (stepped change z)) e2 refl (step_gives change z ∙ exact_some (stepped change z) int)) (received_by m s.state.objects x (Number (stepped change z)) s u2 low h2 (subst (λ y. Fits (g m) s.state.objects y (Number (stepped change z))) (sym is) int)))
+        (both_give (
+          refl,
+          record {
+            value = λ void. kept u2.names (name.local x) (temporary kind.Int t) (holds.Int (stepped change z)) refl ∙ at2;
+            kept = keeps_local m x (holds.Int (stepped change z)) t u.names u2 keeps2;
+            stores = stores_local m x v s u2 tt h2;
+          },
+        )))))))
 
     word_end : (change : Change) (n : ℕ) (u1 : c.Store) → Holds m t u.names ty.Unsigned (Word n) s u1 → u1.names (v_ x) ≡ holds.Unsigned n → AgreeOn (Holds m t u.names ty.Unsigned) (step_rest x (Word n) s k (changed change (Word n))) (flows_of around (set (v_ x) (Binary (Name (v_ x)) (change_in_c change) (word 1))) u1 k)
     word_end Up n u1 p e1 = gives_ran around _ (step_rest x (Word n) s k (changed Up (Word n))) _ u1 k (set_ran around (v_ x) (Binary (Name (v_ x)) o.Add (word 1)) _ u1 k (op_gives around u1 k (Name (v_ x)) (word 1) o.Add (holds.Unsigned n) (holds.Unsigned 1) _ e1 refl refl) refl)
@@ -612,6 +618,7 @@ module _ (m : Frame) (calls : Calls) (around : c.Around) (has : HasPrelude aroun
         let last = set (v_ x) (Binary (Name (v_ x)) (change_in_c change) (word 1)) in
         agree_ran around _ _ (set (u_ t) (Atom (Name (v_ x)))) last u k (set_ran around (u_ t) (Atom (Name (v_ x))) (holds.Unsigned n) u k (copy_gives around u k (Name (v_ x)) (holds.Unsigned n) e) refl)
         (word_end change n u1 first e1)
+
     step_at : (type : Ty) (v : Value) → type_at m.types x ≡ type → IsTrue (is_number type) → Fits (g m) s.state.objects type v → u.names (v_ x) ≡ c_value m s.state.objects v → AgreeOn (Holds m t u.names type) (step_rest x v s k (changed change v)) (flows_of around (step_code t x change type) u k)
     step_at ty.Int (Number z) is n f e = step_int_agrees z is f e
     step_at ty.Unsigned (Word y) is n f e = step_word_agrees y f e
@@ -636,12 +643,12 @@ module _ (m : Frame) (calls : Calls) (around : c.Around) (has : HasPrelude aroun
         (trap_unless around has _ (step_rest x (Number z) s k (number_or (int_of (stepped change z)))) s u2 k by.Overflow t b last refl test.bit h2.states.world
         (λ d. rw (step_over (stepped change z) d) refl)
         (λ d.
-            let int = unflip (is_int (stepped change z)) d in
-            let v = Number (stepped change z) in
-            rw (step_ok (stepped change z) int)
-            (gives_ran around _ (step_rest x (Number z) s k (Ok v)) last u2 k
-            (set_ran around (v_ x) (Binary (Name (v_ x)) (change_in_c change) (plain 1)) (holds.Int (stepped change z)) u2 k (int_op around t k u2 (Name (v_ x)) (plain 1) (change_in_c change) z (pos 1) (holds.Int (stepped change z)) e2 refl (step_gives change z ∙ exact_some (stepped change z) int)) (received_by m s.state.objects x (Number (stepped change z)) s u2 low h2 (subst (λ y. Fits (g m) s.state.objects y (Number (stepped change z))) (sym is) int)))
-            (both_give (refl, (keeps_local m x (holds.Int (stepped change z)) t u.names u2 keeps2, stores_local m x v s u2 tt h2)))))))
+        let int = unflip (is_int (stepped change z)) d in
+        let v = Number (stepped change z) in
+        rw (step_ok (stepped change z) int)
+        (gives_ran around _ (step_rest x (Number z) s k (Ok v)) last u2 k
+        (set_ran around (v_ x) (Binary (Name (v_ x)) (change_in_c change) (plain 1)) (holds.Int (stepped change z)) u2 k (int_op around t k u2 (Name (v_ x)) (plain 1) (change_in_c change) z (pos 1) (holds.Int (stepped change z)) e2 refl (step_gives change z ∙ exact_some (stepped change z) int)) (received_by m s.state.objects x (Number (stepped change z)) s u2 low h2 (subst (λ y. Fits (g m) s.state.objects y (Number (stepped change z))) (sym is) int)))
+        (both_give (refl, (keeps_local m x (holds.Int (stepped change z)) t u.names u2 keeps2, stores_local m x v s u2 tt h2)))))))
 
     word_effect : (change : Change) (n : ℕ) → u.names (v_ x) ≡ holds.Unsigned n → AgreeOn (λ v s' u'. Keeps m t u.names u' × Stores m s' u') (step_rest x (Word n) s k (changed change (Word n))) (flows_of around (set (v_ x) (Binary (Name (v_ x)) (change_in_c change) (word 1))) u k)
     word_effect Up n e1 = gives_ran around _ (step_rest x (Word n) s k (changed Up (Word n))) _ u k (set_ran around (v_ x) (Binary (Name (v_ x)) o.Add (word 1)) _ u k (op_gives around u k (Name (v_ x)) (word 1) o.Add (holds.Unsigned n) (holds.Unsigned 1) _ e1 refl refl) refl)

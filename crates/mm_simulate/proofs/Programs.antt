@@ -88,12 +88,16 @@ module _ (p : Program) (l : Layout) (temps : ℕ → List (CKind × ℕ)) where
         rw (e, b.is) (function_agrees p callable l (name_of p) (call_of p n) (c.around_all q (c.steps_of q n)) (prelude (c.steps_of q n)) f (known n f) agree i (nat_eq i (number_of_main p.functions)) b.stmt (temps i) (low i f b.stmt e b.is) b.fits vs s u k fits is states)
 
     pub calls_agree : (n : ℕ) → CallsAgree p l callable (name_of p) (λ k. Unit {0}) (call_of p n) (c.around_all q (c.steps_of q n))
-    calls_agree zero = record { by = λ i f vs s u k at e closed ok fits is states.
-        let b = body_of p is_defined f f.defined f.body (defined f ok) refl (valid i f e).body in
-        rw (called (c.steps_of q 0) i f b.stmt (all_in_c l s.objects vs) e b.is) (both_stop states.world) }
-    calls_agree (suc n) = record { by = λ i f vs s u k at e closed ok fits is states.
-        let b = body_of p is_defined f f.defined f.body (defined f ok) refl (valid i f e).body in
-        rw (called (c.steps_of q (suc n)) i f b.stmt (all_in_c l s.objects vs) e b.is) (steps_agree n i f b vs s u k (calls_agree n) e fits is states) }
+    calls_agree zero = record {
+      by = λ i f vs s u k at e closed ok fits is states.
+          let b = body_of p is_defined f f.defined f.body (defined f ok) refl (valid i f e).body in
+          rw (called (c.steps_of q 0) i f b.stmt (all_in_c l s.objects vs) e b.is) (both_stop states.world);
+    }
+    calls_agree (suc n) = record {
+      by = λ i f vs s u k at e closed ok fits is states.
+          let b = body_of p is_defined f f.defined f.body (defined f ok) refl (valid i f e).body in
+          rw (called (c.steps_of q (suc n)) i f b.stmt (all_in_c l s.objects vs) e b.is) (steps_agree n i f b vs s u k (calls_agree n) e fits is states);
+    }
 
     -- ---- runs of programs
 

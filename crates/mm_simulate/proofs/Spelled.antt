@@ -32,10 +32,10 @@ is_other : (cs : List (List ℕ × ℕ)) (text : List ℕ) → list_all (λ (c :
 is_other [] text e d = refl
 is_other (c ∷ cs) text e d =
     ap (λ (b : Bool). elim b as (λ (z : Bool). ℕ) [ true ↦ c.1 | false ↦ class_in cs text ]) (is_false (bytes_eq c.0 text) (λ h.
-        let same = (bytes_eq-Decides c.0 text).0 h in
-        let off = and_left (not (numbered c.0)) (list_all (λ (c : List ℕ × ℕ). not (numbered c.0)) cs) e in
-        let z : not (numbered text) ≡ true = subst (λ t. not (numbered t) ≡ true) same off in
-        cc))
+    let same = (bytes_eq-Decides c.0 text).0 h in
+    let off = and_left (not (numbered c.0)) (list_all (λ (c : List ℕ × ℕ). not (numbered c.0)) cs) e in
+    let z : not (numbered text) ≡ true = subst (λ t. not (numbered t) ≡ true) same off in
+    cc))
     ∙ is_other cs text (and_right (not (numbered c.0)) (list_all (λ (c : List ℕ × ℕ). not (numbered c.0)) cs) e) d
 
 word_digit : (d : ℕ) → is_ascii_digit d ≡ true → is_word_byte d ≡ true

@@ -252,7 +252,7 @@ module _ (m : Frame) (calls : Calls) (around : c.Around) (has : HasPrelude aroun
         from_body : (n : ℕ) → Loops n → (old : c.Names) (s : Store) (u : c.Store) (k : ℕ) → IsFine known s → Keeps m t old u → Stores m s u → Agree SameWorld (Did m result t old) (runs.then (body s k) (λ flow. next_turn flow (turns_from n before before body))) (runs.then (c.flows_of around (flag_set true ⨾ ys) u k) (λ flow. c.next_turn flow (c.turns n (c.flow_in around (block_of turn)))))
         from_body n ih old s u k fine keeps h =
             agree_then (agree_on (Going true [] known s) (agree_ran around (λ flow s1 flow' u1. Did m result t old flow s1 flow' u1 × Is true u1) (body s k) (flag_set true) ys u k (flag_ran s u true k h)
-              (agree_weaken (claim s (flag u true) k fine (flag_stores s u true h)) (λ flow s1 flow' u1 p. did_under true old flow s1 flow' (flag u true) u1 (flag_keeps old u true keeps) (written u.names (i_ t) (holds.Int (bit_of true))) p))) (fits s k fine))
+            (agree_weaken (claim s (flag u true) k fine (flag_stores s u true h)) (λ flow s1 flow' u1 p. did_under true old flow s1 flow' (flag u true) u1 (flag_keeps old u true keeps) (written u.names (i_ t) (holds.Int (bit_of true))) p))) (fits s k fine))
             (λ flow s1 flow' u1 k1 p. next_agrees t known (Is true) old (turns_from n before before body) (c.turns n (c.flow_in around (block_of turn))) (ih true old) s flow s1 flow' u1 k1 p.0.0 (λ q. p.0.1) p.1)
 
         -- behind what stands before it
@@ -290,9 +290,9 @@ module _ (m : Frame) (calls : Calls) (around : c.Around) (has : HasPrelude aroun
       (λ z j f. tested_went (core m calls) ok result known e (runs.pure Next) z j valid.1 f (λ y i q. nothing_fits known y i q))
       (λ z j f. flows_fit (core m calls) ok result ss true known z j valid.0 f)
       (λ s1 u1 k1 f1 h1 is.
-        (tested_agrees _ known (suc t) e (runs.pure Next) done s1 u1 k1 low.1 valid.1 f1 h1
-        (λ s2 u2 k2 f2 keeps2 h2. both_give (stays t Next s2 u2 u1.names (under u1.names u2 keeps2) h2, λ q. cc))
-        (λ s2 u2 keeps2 h2. (stays t Broke s2 u2 u1.names (under u1.names u2 keeps2) h2, λ q. cc))))
+      (tested_agrees _ known (suc t) e (runs.pure Next) done s1 u1 k1 low.1 valid.1 f1 h1
+      (λ s2 u2 k2 f2 keeps2 h2. both_give (stays t Next s2 u2 u1.names (under u1.names u2 keeps2) h2, λ q. cc))
+      (λ s2 u2 keeps2 h2. (stays t Broke s2 u2 u1.names (under u1.names u2 keeps2) h2, λ q. cc))))
       (λ s1 u1 k1 f1 h1. ih true known (suc t) s1 u1 k1 low.0 valid.0 f1 h1)
       s u k fine h
     where

@@ -179,9 +179,9 @@ module _ (p : Program) (l : Layout) (temps : ℕ → List (CKind × ℕ)) (scala
 
     scope_placed : (e : CLocal) → Has scope e → IsPlaced types e
     scope_placed e h = elim (has_either (locals_from (length arguments) d.function.locals ++ map temporary_local ds) (locals_from 0 arguments) e h) [
-        | inl k ↦ elim (has_either (locals_from (length arguments) d.function.locals) (map temporary_local ds) e k) [ inl m ↦ locals_placed e m | inr m ↦ temporary_placed types ds e m ]
-        | inr k ↦ params_placed e k
-      ]
+      | inl k ↦ elim (has_either (locals_from (length arguments) d.function.locals) (map temporary_local ds) e k) [ inl m ↦ locals_placed e m | inr m ↦ temporary_placed types ds e m ]
+      | inr k ↦ params_placed e k
+    ]
 
     full_placed : (e : CLocal) → Has full e → IsPlaced types e
     full_placed e h = elim (has_either scope (map temporary_local (temporaries reached)) e h) [ inl k ↦ scope_placed e k | inr k ↦ temporary_placed types (temporaries reached) e k ]
@@ -194,9 +194,9 @@ module _ (p : Program) (l : Layout) (temps : ℕ → List (CKind × ℕ)) (scala
 
     local_in : (x : ℕ) → x < length types → IsThere scope (v_ x)
     local_in x low = elim (split_below x (length arguments) (length d.function.locals) (let e = length-append arguments d.function.locals in omega arith)) [
-        | inl k ↦ (let t = local_there 0 arguments x k in record { entry = t.entry; has = has_right (locals_from (length arguments) d.function.locals ++ map temporary_local ds) (locals_from 0 arguments) t.entry t.has; name = t.name ∙ ap v_ (let z : 0 + x ≡ x = omega arith in z) })
-        | inr k ↦ (let t = local_there (length arguments) d.function.locals k.0 k.2 in record { entry = t.entry; has = has_left (locals_from (length arguments) d.function.locals ++ map temporary_local ds) (locals_from 0 arguments) t.entry (has_left (locals_from (length arguments) d.function.locals) (map temporary_local ds) t.entry t.has); name = t.name ∙ ap v_ (sym k.1) })
-      ]
+      | inl k ↦ (let t = local_there 0 arguments x k in record { entry = t.entry; has = has_right (locals_from (length arguments) d.function.locals ++ map temporary_local ds) (locals_from 0 arguments) t.entry t.has; name = t.name ∙ ap v_ (let z : 0 + x ≡ x = omega arith in z) })
+      | inr k ↦ (let t = local_there (length arguments) d.function.locals k.0 k.2 in record { entry = t.entry; has = has_left (locals_from (length arguments) d.function.locals ++ map temporary_local ds) (locals_from 0 arguments) t.entry (has_left (locals_from (length arguments) d.function.locals) (map temporary_local ds) t.entry t.has); name = t.name ∙ ap v_ (sym k.1) })
+    ]
 
     declared_in : (e : CKind × ℕ) → Has ds e → Has scope (temporary_local e)
     declared_in e h = has_left (locals_from (length arguments) d.function.locals ++ map temporary_local ds) (locals_from 0 arguments) (temporary_local e) (has_right (locals_from (length arguments) d.function.locals) (map temporary_local ds) (temporary_local e) (has_map temporary_local ds e h))
@@ -274,9 +274,9 @@ module _ (p : Program) (l : Layout) (temps : ℕ → List (CKind × ℕ)) (scala
 
     all_placed : (e : CLocal) → Has (locals_from 0 types ++ map temporary_local ds) e → IsPlaced types e
     all_placed e h = elim (has_either (locals_from 0 types) (map temporary_local ds) e h) [
-        | inl k ↦ local_placed types 0 types e (λ i low. ap (type_at types) (let z : 0 + i ≡ i = omega arith in z)) k
-        | inr k ↦ temporary_placed types ds e k
-      ]
+      | inl k ↦ local_placed types 0 types e (λ i low. ap (type_at types) (let z : 0 + i ≡ i = omega arith in z)) k
+      | inr k ↦ temporary_placed types ds e k
+    ]
 
     pub locals_ok : (globals : List (List ℕ)) → ((x : Place) → is_in globals (named x) ≡ false) → locals_fit globals ((fn_of p l temps d).params ++ locals_of (fn_of p l temps d).body) ≡ true
     locals_ok globals free = ap (locals_fit globals) lists_are ∙ all_fit_locals globals (locals_from 0 types ++ map temporary_local ds) (λ e h. one e (all_placed e h)) (locals_apart 0 types (map temporary_local ds) (temporaries_apart ds (theirs d.number d.function d.body at.there at.has_body).once) (no_local ds))
@@ -417,7 +417,7 @@ module _ (p : Program) (l : Layout) (temps : ℕ → List (CKind × ℕ)) (scala
       let is = others_sound (number_of_main p.functions) p.functions 0 d (has d (first refl)) in
       any_true (item_fits table (globals_of q) (map (head_of p l temps) hs ++ map (item_of p l temps) (entry p ++ others p)) (head_of p l temps d)) (items_break (table_head d table) (globals_of q) (map (head_of p l temps) hs ++ map (item_of p l temps) (entry p ++ others p)))
       (both _ _ (both _ _ (function_spelled (nat_eq d.number (number_of_main p.functions)) d.number (source_name (slice_get p.functions d.number))) (ap not (fresh d (first refl))))
-        (ap (defines (record { is_inline = false; result = (fn_of p l temps d).result; name = (fn_of p l temps d).name; params = (fn_of p l temps d).params })) (definitions_heads hs (map (item_of p l temps) (entry p ++ others p)) (N d.number) ∙ definitions_one (entry p ++ others p) d (all_apart p) (has_right (entry p) (others p) d (has d (first refl)))) ∙ defined_once d is.other))
+      (ap (defines (record { is_inline = false; result = (fn_of p l temps d).result; name = (fn_of p l temps d).name; params = (fn_of p l temps d).params })) (definitions_heads hs (map (item_of p l temps) (entry p ++ others p)) (N d.number) ∙ definitions_one (entry p ++ others p) d (all_apart p) (has_right (entry p) (others p) d (has d (first refl)))) ∙ defined_once d is.other))
       ∙ heads_ok hs (table_head d table) apart.1 (λ e k. has e (later k)) (λ e k. still e k)
     where
       still : (e : Defined) → Has hs e → is_in (names_of (table_head d table)) (N e.number) ≡ false

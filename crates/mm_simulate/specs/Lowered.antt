@@ -103,14 +103,14 @@ abbrev pub sum_test : List ℕ → List ℕ → List ℕ → Code
 sum_test x y w =
     set w (Binary (Name y) o.Less (plain 0)) ⨾
     if_or w (test_by w Least o.Subtract (Name y) (Name x) (Name w))
-        (test_by w (plain greatest) o.Subtract (Name y) (Name w) (Name x))
+    (test_by w (plain greatest) o.Subtract (Name y) (Name w) (Name x))
 
 -- x - y is no `int` where y < 0 and greatest + y < x, or where x < least + y
 abbrev pub difference_test : List ℕ → List ℕ → List ℕ → Code
 difference_test x y w =
     set w (Binary (Name y) o.Less (plain 0)) ⨾
     if_or w (test_by w (plain greatest) o.Add (Name y) (Name w) (Name x))
-        (test_by w Least o.Add (Name y) (Name x) (Name w))
+    (test_by w Least o.Add (Name y) (Name x) (Name w))
 
 -- x * y is no `int`: where 0 < y, x is past the quotient of a bound by y; where y < -1 likewise,
 -- with the bounds exchanged; where y is -1, x is the least one. No test divides twice.
@@ -118,7 +118,7 @@ abbrev pub bound_test : List ℕ → List ℕ → List ℕ → CAtom → CAtom �
 bound_test x y w above below =
     set w (Binary (plain 0) o.Less (Name x)) ⨾
     if_or w (test_by w above o.Divide (Name y) (Name w) (Name x))
-        (test_by w below o.Divide (Name y) (Name x) (Name w))
+    (test_by w below o.Divide (Name y) (Name x) (Name w))
 
 abbrev pub minus_one : CAtom
 minus_one = Negative (record { value = 1; is_unsigned = false })
@@ -287,10 +287,12 @@ module _ (a : Around) (l : Layout) (named_of : ℕ → List ℕ) where
     lowered_all t no_exprs = done
     lowered_all t (expr_and e es) = lowered t e ⨾ lowered_all (suc t) es
 
-  -- an expression whose value is not used: neither the result of a call nor a step's old value is kept
+  -- an expression whose value is not used: neither the result of a call nor a step's old value is
+  -- kept
   abbrev pub effect : ℕ → Expr → Code
   effect t (call f es) = lowered_all t es ⨾ just (c.run (Named (named_of f) (atoms_from t es)))
-  effect t (builtin b es) = lowered_all t es ⨾ just (c.run (Named (builtin_name b) (atoms_from t es)))
+  effect t (builtin b es) = lowered_all t es ⨾
+      just (c.run (Named (builtin_name b) (atoms_from t es)))
   effect t (step_local x change) = step_only t x change (type_at a.locals x)
   effect t e = lowered t e
 
@@ -446,8 +448,11 @@ with_body n f (Some b) more = record { number = n; function = f; body = b } ∷ 
 -- those from number n on, but the one of number m
 abbrev pub others_from : ℕ → ℕ → List Function → List Defined
 others_from m n [] = []
-others_from m n (f ∷ fs) = elim (nat_eq n m) [ true ↦ others_from m (suc n) fs | false ↦
-    with_body n f f.body (others_from m (suc n) fs) ]
+others_from m n (f ∷ fs) = elim (nat_eq n m) [
+  | true ↦ others_from m (suc n) fs
+  | false ↦
+      with_body n f f.body (others_from m (suc n) fs)
+]
 
 abbrev pub entry_at : ℕ → Option Function → List Defined
 entry_at m None = []
@@ -483,8 +488,12 @@ module _ (p : Program) (l : Layout) (temps : ℕ → List (CKind × ℕ)) where
   item_of d = c.function (fn_of d)
 
   abbrev pub head_of : Defined → c.Item
-  head_of d = c.proto (record { is_inline = false; result = (fn_of d).result; name = (fn_of d).name;
-      params = (fn_of d).params })
+  head_of d = c.proto (record {
+    is_inline = false;
+    result = (fn_of d).result;
+    name = (fn_of d).name;
+    params = (fn_of d).params;
+  })
 
   -- The heads of all functions but `main`, which has none; then `main`, which any function may
   -- call; then the others.

@@ -7,8 +7,11 @@ use Rattle.mm_c.specs.declared.tree.CKind.TheVariants.{Int, Unsigned, Long, Poin
 -- the last k digits of a number at most, before others
 abbrev pub digits_onto : ℕ → ℕ → List ℕ → List ℕ
 digits_onto zero n more = more
-digits_onto (suc k) n more = elim (nat_eq (n / 10) 0) [ true ↦ (48 + n % 10) ∷ more | false ↦
-    digits_onto k (n / 10) ((48 + n % 10) ∷ more) ]
+digits_onto (suc k) n more = elim (nat_eq (n / 10) 0) [
+  | true ↦ (48 + n % 10) ∷ more
+  | false ↦
+      digits_onto k (n / 10) ((48 + n % 10) ∷ more)
+]
 
 -- The digits of a number. What prints a number of 64 bits writes them too; these are those of every
 -- number, so that no bound stands in what is said of names.

@@ -71,7 +71,7 @@ pub record Keeps : Type 0 where
   pub by : (p : Program) (l : Layout) (name : ℕ → List ℕ) (q : tree.Program)
       (named : Named p is_defined name q) (i : ℕ) (f : Function) (b : Stmt) (public : Bool)
       (temps : List (CKind × ℕ)) (n : ℕ) →
-    IsScalar p → slice_get p.functions i ≡ Some f → f.body ≡ Some b →
-    ((k j : ℕ) (h : Function) → k < n → slice_get p.functions j ≡ Some h → IsTrue h.defined →
-        KeepsAt p l q k j h (named.function j)) →
-    KeepsAt p l q n i f (lowered_fn (around is_defined p f) l name i public f b temps)
+      IsScalar p → slice_get p.functions i ≡ Some f → f.body ≡ Some b →
+      ((k j : ℕ) (h : Function) → k < n → slice_get p.functions j ≡ Some h → IsTrue h.defined →
+      KeepsAt p l q k j h (named.function j)) →
+      KeepsAt p l q n i f (lowered_fn (around is_defined p f) l name i public f b temps)
