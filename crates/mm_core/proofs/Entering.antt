@@ -1,6 +1,6 @@
 -- What virtual calls of a merged program give fits, where what functions give does.
-use Rattle.std.proofs.Common.{◌≡◌, ◌≢◌, ℕ, zero, suc, ◌<◌, List, [], ◌∷◌, ◌++◌, length, map, refl, sym, subst, ap, ◌∙◌, inl, inr, arith}
-use Rattle.std.specs.Prelude.{◌⊎◌, Bool, true, false, not, ◌&&◌, ◌||◌, IsTrue, AllPairs, find, take, codes, Option, Some, None, Result, Ok, Err, slice_get, slice_index_or, get_or}
+use Rattle.std.proofs.Common.{◌≡◌, ℕ, zero, suc, ◌<◌, List, [], ◌∷◌, ◌++◌, map, refl, sym, subst, ap, ◌∙◌, inl, inr, arith}
+use Rattle.std.specs.Prelude.{◌⊎◌, Bool, true, false, not, ◌&&◌, ◌||◌, IsTrue, AllPairs, find, take, codes, Some, Result, Ok, Err, slice_get, slice_index_or, get_or}
 use Rattle.std.specs.List.{list_any}
 use Rattle.std.specs.Str.{bytes_eq}
 use Rattle.std.proofs.lemmas.Slice.Eq.{bytes_eq-Decides}
@@ -20,7 +20,7 @@ use Rattle.mm_classes.proofs.Answering.{complete_below, place_from_Has}
 use Rattle.mm_classes.proofs.Compose.{compose-end}
 use Rattle.mm_classes.proofs.Deriving.{sub_derives}
 use Rattle.mm_core.specs.Tree.{Function, Program}
-use Rattle.mm_core.specs.Heads.{type_code, same_types, params_in, result_in, same_function, types_of_params, function_of, owner_of, this_of, argument_types}
+use Rattle.mm_core.specs.Heads.{type_code, same_types, params_in, result_in, same_function, types_of_params, function_of, owner_of, argument_types}
 use Rattle.mm_core.specs.State.{Value, Truth, Number, Word, Null, At, Nothing, State, Stop, class_of, or_trap, settled, at_once}
 use Rattle.mm_core.specs.Finals.{final_of}
 use Rattle.mm_core.specs.Moves.{result_back}
@@ -31,7 +31,6 @@ use Rattle.mm_core.specs.Units.{is_name, AreNamed}
 use Rattle.mm_core.specs.Dispatch.{is_covariant}
 use Rattle.mm_core.specs.Fits.{Shows, Fits, AllFit, Grew, IsState}
 use Rattle.mm_core.specs.Keeps.{On, Gave}
-use Rattle.mm_core.specs.Relations.{IsOverrider}
 use Rattle.mm_core.proofs.Heap.{grew_on, either_way, Operates}
 use Rattle.mm_core.proofs.Sets.{and_is, is_and, reads_sets}
 use Rattle.mm_core.proofs.Returning.{code_same, back_fits}
@@ -43,7 +42,6 @@ module _ {X : Type 0} where
   slice-Has [] i x e = cc
   slice-Has (y ∷ xs) zero x e = first (let k : y ≡ x = cc in k)
   slice-Has (y ∷ xs) (suc i) x e = later (slice-Has xs i x e)
-
 
   found_more : (p : X → Bool) (y : X) (ys : List X) (x : X) → p y ≡ false → find p ys ≡ Some x → find p (y ∷ ys) ≡ Some x
   found_more p y ys x k e = rw k e
@@ -99,11 +97,11 @@ one_member ms apart m x h k e =
     let j = place_from_Has ms m k in
     let s = same_parts m x e in
     elim (three i.0 j.0) [
-    | inl l ↦ (let a : AreApart m x = at2 i.0 j.0 i.2 j.2 (apart i.0 j.0 m l j.1) in absurd (kinds_apart m.kind x.kind (a s.2) s.3))
-    | inr r ↦ elim r [
-      | inl l ↦ (let a : AreApart x m = at2 j.0 i.0 j.2 i.2 (apart j.0 i.0 m l i.1) in absurd (kinds_apart x.kind m.kind (a (sym s.2)) (sym s.3)))
-      | inr q ↦ sym j.2 ∙ ap (λ n. get_or ms n m) (sym q) ∙ i.2
-    ]
+      | inl l ↦ (let a : AreApart m x = at2 i.0 j.0 i.2 j.2 (apart i.0 j.0 m l j.1) in absurd (kinds_apart m.kind x.kind (a s.2) s.3))
+      | inr r ↦ elim r [
+        | inl l ↦ (let a : AreApart x m = at2 j.0 i.0 j.2 i.2 (apart j.0 i.0 m l i.1) in absurd (kinds_apart x.kind m.kind (a (sym s.2)) (sym s.3)))
+        | inr q ↦ sym j.2 ∙ ap (λ n. get_or ms n m) (sym q) ∙ i.2
+      ]
     ]
   where
     three : (a b : ℕ) → (a < b) ⊎ ((b < a) ⊎ (a ≡ b))
@@ -136,7 +134,7 @@ module _ (g : List Class) (ok : IsClassList g) where
       none [] e k = elim k [ ]
       none (y ∷ ys) e k = cc
 
-  derives_complete : (c b : ℕ) → Derives g c b → IsComplete g c
+  pub derives_complete : (c b : ℕ) → Derives g c b → IsComplete g c
   derives_complete c b (direct x h e) = bases_complete c x h
   derives_complete c b (through x h d) = bases_complete c x h
 

@@ -14,6 +14,9 @@ pub mod Sound
 pub mod SoundCalls
 pub mod Returning
 pub mod Entering
+pub mod Opening
+pub mod Aligned
+pub mod Opened
 pub mod Whole
 pub mod Sets
 pub mod Overriding

@@ -1,19 +1,23 @@
 -- What valid functions give fits their types, where what they call gives what fits. (ISO/IEC 14882,
 -- 3.9.1, 3.9.2 and 5; own.)
-use Rattle.std.specs.Prelude.{◌≡◌, ℕ, Bool, true, false, IsTrue, List, length, Some, slice_get}
+use Rattle.std.specs.Prelude.{◌≡◌, ℕ, ℤ, Bool, true, false, IsTrue, List, length, Some, slice_get}
+use Rattle.mm_base.specs.Num.{is_int}
 use Rattle.mm_meaning.specs.Run.{Run, Gives, Stops}
 use Rattle.mm_classes.specs.declared.class.Ty.{Ty}
 use Rattle.mm_classes.specs.declared.class.Ty.TheVariants as ty
 use Rattle.mm_classes.specs.declared.class.Member.{Member}
+use Rattle.mm_classes.specs.Lists.{Has}
 use Rattle.mm_classes.specs.Classes.{Class, IsClassList}
 use Rattle.mm_core.specs.Tree.{Stmt, Function, Program}
 use Rattle.mm_core.specs.Heads.{is_reference, field_type, params_in, result_in, argument_types, local_types, is_open}
 use Rattle.mm_core.specs.State.{Value, State, Stop}
 use Rattle.mm_core.specs.Virtual.{Calls, call_virtual}
 use Rattle.mm_core.specs.Open.{call_open}
-use Rattle.mm_core.specs.Meaning.{enter, setting_of}
+use Rattle.mm_core.specs.Meaning.{enter, setting_of, call_of}
+use Rattle.mm_core.specs.Run.{Ended, source_run}
 use Rattle.mm_core.specs.Valid.{IsVirtualMethod}
-use Rattle.mm_core.specs.ValidProgram.{around, IsBody}
+use Rattle.mm_core.specs.ValidProgram.{around, IsBody, IsMerged, IsResolved}
+use Rattle.mm_core.specs.Units.{AreNamed}
 use Rattle.mm_core.specs.Fits.{Fits, AllFit, Grew, IsState}
 
 -- what a run gives has the property
@@ -76,3 +80,21 @@ pub record ValuesFit : Type 0 where
       IsBody (around callable p f) f.result body →
       AllFit p.classes s.objects (argument_types p.classes f) vs → IsState p.classes s →
       On (Gave p.classes f.result s) (enter (setting_of p calls) f body vs s k)
+
+-- A merged program whose names are as they should be, and whose open-methods have no fault.
+pub record IsSound (p : Program) : Type 0 where
+  pub merged : IsMerged p
+  pub named : AreNamed p
+  pub resolved : IsResolved p
+
+-- There each call of a defined function on arguments of its types gives a value of its result's
+-- type, at every depth; and a run on `int`s that ends does so with an `int`.
+pub record ProgramsFit : Type 0 where
+  pub calls : (p : Program) → IsSound p →
+      (n m : ℕ) (f : Function) (vs : List Value) (s : State) (k : ℕ) →
+      slice_get p.functions m ≡ Some f → IsTrue f.defined → IsState p.classes s →
+      AllFit p.classes s.objects (argument_types p.classes f) vs →
+      On (Gave p.classes f.result s) (call_of p n m vs s k)
+  pub runs : (p : Program) → IsSound p → (input : List ℤ) (n : ℕ) (z : ℤ) →
+      ((x : ℤ) → Has input x → IsTrue (is_int x)) → (source_run p input n).finish ≡ Ended z →
+      IsTrue (is_int z)

@@ -37,8 +37,8 @@ pub record Joined : Type 0 where
 
 -- ---- names and places
 
--- A name that a program declares: it has bytes, no colon and no `~` among them, and not `mm_` at its
--- front. (That it is an identifier is asked where texts and records are read.)
+-- A name that a program declares: it has bytes, no colon and no `~` among them, and not `mm_` at
+-- its front. (That it is an identifier is asked where texts and records are read.)
 abbrev pub is_name : List ℕ → Bool
 is_name n =
     is_some_of n && (not (has n 58) && (not (has n 126) && not (bytes_eq (take 3 n) (codes "mm_"))))
