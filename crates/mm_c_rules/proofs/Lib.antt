@@ -3,4 +3,7 @@ pub mod Entries
 pub mod Scopes
 pub mod Arguments
 pub mod Keeping
+pub mod Distinct
+pub mod Pairs
+pub mod Sequence
 pub mod Rules

@@ -1,0 +1,10 @@
+use Rattle.std.proofs.Common.{sym}
+use Rattle.mm_c_rules.specs.Entries.{table_of}
+use Rattle.mm_c_rules.proofs.Distinct.{named_some, named_none}
+use Rattle.mm_c_rules.proofs.items.is_declared.Goals as goal
+
+pub returns-in-Some : goal.returns-in-Some
+returns-in-Some c = sym (named_some (table_of c.args.before.now) c.args.name.now _ c.in-Some.ensures)
+
+pub returns-in-None : goal.returns-in-None
+returns-in-None c = sym (named_none (table_of c.args.before.now) c.args.name.now c.in-None.ensures)
