@@ -6,4 +6,5 @@ pub mod Keeping
 pub mod Distinct
 pub mod Pairs
 pub mod Sequence
+pub mod Both
 pub mod Rules

@@ -1,6 +1,6 @@
 // Items by themselves.
 
-ghost use Rattle.std.specs.Prelude.{◌≡◌, ◌&&◌, ℕ, List, [], ◌∷◌, Some, map, option_map, slice_get, MatchOption};
+ghost use Rattle.std.specs.Prelude.{◌≡◌, ◌<◌, ◌&&◌, ℕ, length, List, [], ◌∷◌, Some, map, option_map, slice_get, MatchOption};
 ghost use Rattle.std.specs.Borrow.{Bor};
 ghost use Rattle.mm_c.specs.declared.tree.CLocal.{CLocal};
 ghost use Rattle.mm_c.specs.WellFormed as w;
@@ -29,10 +29,11 @@ fn same_kind(first: CKind, second: CKind) -> bool
     kind_number(first) == kind_number(second)
 }
 
-fn is_kind(first: &CKind, second: CKind) -> bool
-    ensures { result ≡ same_kind first.now second }
+fn kind_at(kinds: &[CKind], i: usize) -> CKind
+    requires { i < length kinds.now }
+    ensures { slice_get kinds.now i ≡ Some result }
 {
-    same_kind(*first, second)
+    kinds[i]
 }
 
 #[tactic(auto, using(crate::proofs::Rules::pair_rules))]
@@ -43,7 +44,7 @@ fn same_kinds(kinds: &[CKind], params: &Params<'_>) -> bool
         let Some(kind) = param_kind(params, i) else {
             return false;
         };
-        if !is_kind(&kinds[i], kind) {
+        if !same_kind(kind_at(kinds, i), kind) {
             return false;
         }
     }
@@ -304,13 +305,19 @@ fn head_fits(function: &CFn) -> bool
     !is_public(function.linkage)
 }
 
+fn may_be_defined(before: &[CItem], name: &Text) -> bool
+    ensures { result ≡ (is_name name.now && may_define (entry_in (table_of before.now) name.now)) }
+{
+    is_name(name.as_bytes()) && may_define(before, name)
+}
+
 fn head_may_stand(before: &[CItem], function: &CFn) -> bool
     ensures {
         result ≡ (is_name function.now.name && may_define (entry_in (table_of before.now) function.now.name)
             && head_fits (function_view function.now))
     }
 {
-    is_name(function.name.as_bytes()) && may_define(before, &function.name) && head_fits(function)
+    may_be_defined(before, &function.name) && head_fits(function)
 }
 
 // The depth is asked before all that goes down into the blocks.

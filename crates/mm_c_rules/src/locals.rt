@@ -1,8 +1,8 @@
 // The parameters and locals of a function: names of their own, each once, and no names of the program.
 
-ghost use Rattle.std.specs.Prelude.{◌≡◌, ℕ, List, map, nat_le};
+ghost use Rattle.std.specs.Prelude.{◌≡◌, ◌&&◌, not, ℕ, List, map, nat_le};
 ghost use Rattle.mm_c.specs.View.{item_view, stmt_view, block_view, code_view};
-ghost use Rattle.mm_c.specs.WellFormed.{Entry, entry_in, prelude, item_name, is_in, locals_of, code_locals, stmt_locals, locals_fit, list_every, depth_of, code_depth, stmt_depth};
+ghost use Rattle.mm_c.specs.WellFormed.{is_name, Entry, entry_in, prelude, item_name, is_in, locals_of, code_locals, stmt_locals, locals_fit, list_every, depth_of, code_depth, stmt_depth};
 ghost use Rattle.mm_c.specs.Printing.{is_some_list};
 ghost use Rattle.mm_c_rules.specs.declared.locals.Met.TheVariants.{Never};
 ghost use Rattle.mm_c_rules.specs.Locals.{met_one, met_in, is_once, globals_in, all_locals, is_fine, inner_locals, ToldInner};
@@ -202,12 +202,19 @@ pub fn is_global(items: &[CItem], name: &[u8]) -> bool
     is_given(name) || is_item(items, name)
 }
 
+// a name that the program hasn't
+fn is_free(items: &[CItem], name: &[u8]) -> bool
+    ensures { result ≡ (is_name name.now && not (is_in (globals_in items.now) name.now)) }
+{
+    is_name(name) && !is_global(items, name)
+}
+
 fn is_fine(names: &Names<'_>, local: &CLocal) -> bool
     requires { ToldInner names.now }
     ensures { result ≡ is_fine (globals_in names.now.items.now) (all_locals names.now.function.now) local.now }
 {
     let name = local.name.as_bytes();
-    is_name(name) && !is_global(names.items, name) && is_once(met_in_function(names, name))
+    is_free(names.items, name) && is_once(met_in_function(names, name))
 }
 
 fn are_fine(names: &Names<'_>, locals: &[CLocal]) -> bool
