@@ -3,4 +3,8 @@ pub mod Entries
 pub mod Scopes
 pub mod Arguments
 pub mod Keeping
+pub mod Distinct
+pub mod Pairs
+pub mod Sequence
+pub mod Both
 pub mod Rules

@@ -85,5 +85,5 @@ named_in (c ∷ cs) x t h = go (bytes_eq c.0 x) refl h (λ k. named_in cs x (and
     go true e k r = agree_same _ _ (and_left (tells c) (list_every tells cs) t) ∙ ap (λ y. is_run y && not (is_reserved y)) ((bytes_eq-Decides c.0 x).0 e)
     go false e k r = r k
 
-pub is_name-run : (x : List ℕ) → is_name x ≡ (is_run x && not (is_reserved x))
-is_name-run x = named_in classes x refl (reserved_known x)
+pub is_name_run : (x : List ℕ) → is_name x ≡ (is_run x && not (is_reserved x))
+is_name_run x = named_in classes x refl (reserved_known x)

@@ -2,3 +2,4 @@ pub mod Words
 pub mod Entries
 pub mod Scopes
 pub mod Keeps
+pub mod Locals

@@ -64,7 +64,7 @@ fn given(kind: Option<CKind>, kinds: &'static [CKind]) -> Entry<'static>
     Entry::Callable(Head { is_inline: false, is_defined: true, result: kind, params: Params::Kinds(kinds) })
 }
 
-fn prelude_entry(name: &[u8]) -> Option<Entry<'static>>
+pub fn prelude_entry(name: &[u8]) -> Option<Entry<'static>>
     ensures { option_map entry_view result ≡ entry_in prelude name.now }
 {
     if b"mm_put".as_slice() == name {

@@ -3,7 +3,12 @@
 
 pub mod entry;
 pub mod here;
+mod items;
+mod locals;
 mod names;
 mod operands;
+mod program;
 mod right;
 mod statements;
+
+pub use program::well_formed;
