@@ -1,63 +1,155 @@
 -- When a run of the source and a run of C agree. (Own.)
-use Rattle.std.specs.Prelude.{◌≡◌, ℕ, ℤ, pos, IsTrue, List, [], ◌∷◌, Option, Some}
-use Rattle.mm_base.specs.Num.{is_int, code_of}
+use Rattle.std.specs.Prelude.{◌≡◌, ℕ, ◌+◌, ◌<◌, pos, Bool, false, IsTrue, List, length, map, Option, Some, None, codes, slice_get}
+use Rattle.mm_base.specs.Num.{code_of}
+use Rattle.mm_base.specs.declared.world.Builtin.TheVariants.{Put, Get, More}
 use Rattle.mm_meaning.specs.Run.{Run, Gives, Stops}
+use Rattle.mm_classes.specs.declared.class.Ty.{Ty}
+use Rattle.mm_classes.specs.declared.class.Ty.TheVariants as ty
+use Rattle.mm_classes.specs.Classes.{Class}
+use Rattle.mm_classes.specs.Subobjects.{Path, IsSubobject, end_of}
+use Rattle.mm_core.specs.Tree.{Function, Program}
+use Rattle.mm_core.specs.Heads.{field_type, argument_types, is_open}
 use Rattle.mm_core.specs.State as source
-use Rattle.mm_core.specs.State.{Value, Number, Nothing}
-use Rattle.mm_core.specs.Meaning.{Trapped, Spent}
-use Rattle.mm_core.specs.Meaning as by
-use Rattle.mm_core.specs.Valid.{ValueType, void_type, int_type}
-use Rattle.mm_c.specs.Memory as memory
+use Rattle.mm_core.specs.State.{Value, Truth, Number, Word, Null, At, Nothing, Object, object_at, class_of}
+use Rattle.mm_core.specs.Virtual.{Calls}
+use Rattle.mm_core.specs.Valid.{IsFieldOf}
+use Rattle.mm_core.specs.Fits.{AllFit, IsState}
+use Rattle.mm_c.specs.declared.value.CCell.{CCell}
+use Rattle.mm_c.specs.declared.value.CCell.TheVariants as cell
+use Rattle.mm_c.specs.declared.value.CValue.{CValue}
+use Rattle.mm_c.specs.declared.value.CValue.TheVariants as holds
+use Rattle.mm_c.specs.declared.tree.CKind.{CKind}
+use Rattle.mm_c.specs.declared.tree.CKind.TheVariants as kind
+use Rattle.mm_c.specs.Memory.{Block, load_in}
 use Rattle.mm_c.specs.CMeaning as c
+use Rattle.mm_c.specs.CMeaning.{bit_of, Around}
+
+-- ---- ends
 
 -- The stop of C that stands for a stop of the source. None is `Stuck`.
-abbrev pub stop_in_c : by.Stop → c.Stop
-stop_in_c (Trapped t) = c.Trapped (code_of t)
-stop_in_c Spent = c.Spent
+abbrev pub stop_in_c : source.Stop → c.Stop
+stop_in_c (source.Trapped t) = c.Trapped (code_of t)
+stop_in_c source.Spent = c.Spent
 
--- Both runs give results, in states as `Post` says and with one clock left, or both stop in one way, in states as
--- `Ends` says.
-pub data Agree {S A T B : Type 0} (Ends : S → T → Type 0) (Post : A → S → B → T → Type 0) : Run by.Stop S A → Run c.Stop T B → Type 0 where
-  both_give : {a : A} {s : S} {b : B} {t : T} {k : ℕ} → Post a s b t → Agree Ends Post (Gives a s k) (Gives b t k)
-  both_stop : {x : by.Stop} {s : S} {t : T} → Ends s t → Agree Ends Post (Stops x s) (Stops (stop_in_c x) t)
+-- Both runs give results, in states as `Post` says and with one clock left, or both stop in one
+-- way, in states as `Ends` says.
+pub data Agree {S A T B : Type 0} (Ends : S → T → Type 0) (Post : A → S → B → T →
+    Type 0) : Run source.Stop S A → Run c.Stop T B → Type 0 where
+  both_give : {a : A} {s : S} {b : B} {t : T} {k : ℕ} → Post a s b t →
+      Agree Ends Post (Gives a s k) (Gives b t k)
+  both_stop : {x : source.Stop} {s : S} {t : T} → Ends s t →
+      Agree Ends Post (Stops x s) (Stops (stop_in_c x) t)
 
--- a value of a type
-abbrev pub Fits : ValueType → Value → Type 0
-Fits int_type (Number z) = IsTrue (is_int z)
-Fits int_type Nothing = ⊥
-Fits void_type (Number z) = ⊥
-Fits void_type Nothing = Unit {0}
+-- ---- values
 
-abbrev pub AllFit : List ValueType → List Value → Type 0
-AllFit [] [] = Unit {0}
-AllFit [] (v ∷ vs) = ⊥
-AllFit (t ∷ ts) [] = ⊥
-AllFit (t ∷ ts) (v ∷ vs) = Fits t v × AllFit ts vs
+-- where things stand in memory
+pub record Layout : Type 0 where
+  -- the bytes of an object of a class
+  pub size : ℕ → ℕ
+  -- a subobject in an object of a class, and a field in its class
+  pub offset : ℕ → Path → ℕ
+  pub member : ℕ → ℕ → ℕ
 
--- the value of C that stands for a value of the source; one of type `void` is never asked for
-abbrev pub in_c : Value → memory.Value
-in_c (Number z) = memory.Int z
-in_c Nothing = memory.Int (pos 0)
+-- the kind of a type's values; of `void`, any
+abbrev pub kind_of : Ty → CKind
+kind_of ty.Void = kind.Int
+kind_of ty.Bool = kind.Int
+kind_of ty.Int = kind.Int
+kind_of ty.Unsigned = kind.Unsigned
+kind_of (ty.Ptr d) = kind.Pointer
+kind_of (ty.Ref d) = kind.Pointer
 
--- an input, which is a list of numbers that an `int` holds
-abbrev pub IsInput : List ℤ → Type 0
-IsInput [] = Unit {0}
-IsInput (z ∷ zs) = IsTrue (is_int z) × IsInput zs
+-- the cell of a field of a type
+abbrev pub cell_of : Ty → CCell
+cell_of ty.Void = cell.Int
+cell_of ty.Bool = cell.Int
+cell_of ty.Int = cell.Int
+cell_of ty.Unsigned = cell.Unsigned
+cell_of (ty.Ptr d) = cell.Pointer
+cell_of (ty.Ref d) = cell.Pointer
 
--- The states correspond: one world, with an input in it.
-pub record States (s : source.State) (u : c.State) : Type 0 where
-  pub world : s.world ≡ u.world
-  pub input : IsInput s.world.input
+-- The value of C that stands for a value: a pointer is the object's block and the subobject's
+-- offset in it.
+abbrev pub in_c : Layout → List Object → Value → CValue
+in_c l objects (Truth b) = holds.Int (bit_of b)
+in_c l objects (Number z) = holds.Int z
+in_c l objects (Word n) = holds.Unsigned n
+in_c l objects Null = holds.Null
+in_c l objects (At o s) = holds.At o (l.offset (class_of objects o) s)
+in_c l objects Nothing = holds.Int (pos 0)
 
--- A result of a call and the one of the C call: the same value, of its type, in states that correspond.
-pub record SameResult (type : ValueType) (v : Value) (s : source.State) (r : Option memory.Value) (u : c.State) : Type 0 where
-  pub value : r ≡ Some (in_c v)
-  pub fits : Fits type v
-  pub states : States s u
+abbrev pub all_in_c : Layout → List Object → List Value → List CValue
+all_in_c l objects = map (in_c l objects)
+
+-- what a function of a result type gives: nothing, where it is `void`
+abbrev pub result_in_c : Ty → CValue → Option CValue
+result_in_c ty.Void v = None
+result_in_c ty.Bool v = Some v
+result_in_c ty.Int v = Some v
+result_in_c ty.Unsigned v = Some v
+result_in_c (ty.Ptr d) v = Some v
+result_in_c (ty.Ref d) v = Some v
+
+-- a value that is a pointer shows an object that is there
+abbrev pub Stands : List Object → Value → Type 0
+Stands objects (Truth b) = Unit {0}
+Stands objects (Number z) = Unit {0}
+Stands objects (Word n) = Unit {0}
+Stands objects Null = Unit {0}
+Stands objects (At o s) = o < length objects
+Stands objects Nothing = Unit {0}
+
+-- ---- states
+
+module _ (g : List Class) (l : Layout) where
+  -- An object's block. One field for each sort of cell: what else stands in it is a further field
+  -- here.
+  pub record IsBlock (objects : List Object) (x : Object) (b : Block) : Type 0 where
+    pub size : b.size ≡ l.size x.class
+    pub cell : (t : Path) (f : ℕ) → IsSubobject g x.class t → IsFieldOf g (end_of t) f →
+        load_in (cell_of (field_type g (end_of t) f)) (l.offset x.class t + l.member (end_of t) f)
+        (Some b) ≡ Some (in_c l objects (x.fields t f))
+
+  -- object o is block o
+  pub record Heaps (objects : List Object) (memory : List Block) : Type 0 where
+    pub lengths : length memory ≡ length objects
+    pub each : (o : ℕ) → o < length objects → (b : Block) × (slice_get memory o ≡ Some b) ×
+        IsBlock objects (object_at objects o) b
+
+  pub record States (s : source.State) (u : c.State) : Type 0 where
+    pub world : s.world ≡ u.world
+    pub heap : Heaps s.objects u.memory
 
 abbrev pub OneWorld : source.State → c.State → Type 0
 OneWorld s u = s.world ≡ u.world
 
--- a call of the source and one of C
-abbrev pub Alike : ValueType → Run by.Stop source.State Value → Run c.Stop c.State (Option memory.Value) → Type 0
-Alike type = Agree OneWorld (SameResult type)
+-- ---- calls
+
+module _ (g : List Class) (l : Layout) where
+  -- a result of a call and the one of the C call
+  pub record SameResult (type : Ty) (v : Value) (s : source.State) (r : Option CValue)
+      (u : c.State) : Type 0 where
+    pub value : r ≡ result_in_c type (in_c l s.objects v)
+    pub states : States g l s u
+
+  abbrev pub Alike : Ty → Run source.Stop source.State Value → Run c.Stop c.State (Option CValue) →
+      Type 0
+  Alike type = Agree OneWorld (SameResult type)
+
+-- The C functions keep the correspondence: each does, on values of its types, what the function of
+-- the source does,
+pub record CallsAgree (p : Program) (l : Layout) (callable : Function → Bool) (name : ℕ → List ℕ)
+    (When : ℕ → Type 0) (calls : Calls) (around : Around) : Type 0 where
+  pub by : (n : ℕ) (f : Function) (vs : List Value) (s : source.State) (u : c.State) (k : ℕ) →
+      When k → slice_get p.functions n ≡ Some f → is_open f ≡ false → IsTrue (callable f) →
+      AllFit p.classes s.objects (argument_types p.classes f) vs → IsState p.classes s →
+      States p.classes l s u → Alike p.classes l f.result (calls n vs s k)
+      (around.call (name n) (all_in_c l s.objects vs) u k)
+
+-- What the names of the prelude call.
+pub record HasPrelude (around : Around) : Type 0 where
+  pub put : (vs : List CValue) → around.call (codes "mm_put") vs ≡ c.ask Put (c.ints_in vs)
+  pub get : (vs : List CValue) → around.call (codes "mm_get") vs ≡ c.ask Get (c.ints_in vs)
+  pub more : (vs : List CValue) → around.call (codes "mm_more") vs ≡ c.ask More (c.ints_in vs)
+  pub trap : (vs : List CValue) → around.call (codes "mm_trap") vs ≡ c.trap (c.ints_in vs)
+  pub new : (vs : List CValue) → around.call (codes "mm_new") vs ≡ c.allocate vs

@@ -5,9 +5,13 @@ use Rattle.std.proofs.lemmas.Bool.Decides.{leb_tells}
 use Rattle.std.proofs.lemmas.Option.{slice_get-get_or, slice_get_past, slice_get_within, get_or_from_slice_get}
 use Rattle.std.proofs.lemmas.List.{get_or-set_same, get_or-set_other, length-set}
 use Rattle.std.proofs.Math.Seq.{map-set_same, get_or-append_seam}
-use Rattle.mm_c.specs.Memory.{Value, Int, Unsigned, Long, Null, At, Kind, IntCell, UnsignedCell, ShortCell, PointerCell, width_of, zero_of, same_kind, Cell, Block, is_apart, has_room, latest, value_or, load_in, load, with_cell, store_in, store, fresh}
+use Rattle.mm_c.specs.declared.value.CCell.{CCell}
+use Rattle.mm_c.specs.declared.value.CCell.TheVariants as cell
+use Rattle.mm_c.specs.declared.value.CValue.{CValue}
+use Rattle.mm_c.specs.declared.value.CValue.TheVariants.{Int, Unsigned, Long, Null, At}
+use Rattle.mm_c.specs.Memory.{width_of, zero_of, same_kind, Cell, Block, is_apart, has_room, latest, value_or, load_in, load, with_cell, store_in, store, fresh}
 use Rattle.mm_c.specs.Laws.{LoadsWhatWasStored, LoadsAsBefore, StoreKeepsSizes, FreshIsZero, LiesInBlock, LoadsInBlock, StoresInBlock, NoOtherLoad, StuckStays, StuckAlike}
-use Rattle.mm_c.proofs.Written.{and_left, and_right, both}
+use Rattle.mm_c.proofs.Bools.{and_left, and_right, both}
 
 -- ---- lists
 
@@ -47,24 +51,24 @@ or_left : (a b : Bool) → a ≡ true → (a || b) ≡ true
 or_left true b h = refl
 or_left false b h = cc
 
-same_self : (k : Kind) → same_kind k k ≡ true
-same_self IntCell = refl
-same_self UnsignedCell = refl
-same_self ShortCell = refl
-same_self PointerCell = refl
+same_self : (k : CCell) → same_kind k k ≡ true
+same_self cell.Int = refl
+same_self cell.Unsigned = refl
+same_self cell.Short = refl
+same_self cell.Pointer = refl
 
-same_is : (k l : Kind) → same_kind k l ≡ true → k ≡ l
-same_is IntCell IntCell e = refl
-same_is UnsignedCell UnsignedCell e = refl
-same_is ShortCell ShortCell e = refl
-same_is PointerCell PointerCell e = refl
+same_is : (k l : CCell) → same_kind k l ≡ true → k ≡ l
+same_is cell.Int cell.Int e = refl
+same_is cell.Unsigned cell.Unsigned e = refl
+same_is cell.Short cell.Short e = refl
+same_is cell.Pointer cell.Pointer e = refl
 same_is k l e = absurd (false≢true e)
 
-some_bytes : (k : Kind) → 0 < width_of k
-some_bytes IntCell = omega arith
-some_bytes UnsignedCell = omega arith
-some_bytes ShortCell = omega arith
-some_bytes PointerCell = omega arith
+some_bytes : (k : CCell) → 0 < width_of k
+some_bytes cell.Int = omega arith
+some_bytes cell.Unsigned = omega arith
+some_bytes cell.Short = omega arith
+some_bytes cell.Pointer = omega arith
 
 eqb_self : (n : ℕ) → eqb n n ≡ true
 eqb_self n = ⊎_elim (λ e. e) (λ e. absurd (eqb-false n n e refl)) (cases_Bool (eqb n n))
@@ -72,38 +76,38 @@ eqb_self n = ⊎_elim (λ e. e) (λ e. absurd (eqb-false n n e refl)) (cases_Boo
 -- ---- stores
 
 -- a store that isn't stuck
-record Stored (memory after : List Block) (b : ℕ) (kind : Kind) (offset : ℕ) (v : Value) : Type 0 where
+record Stored (memory after : List Block) (b : ℕ) (kind : CCell) (offset : ℕ) (v : CValue) : Type 0 where
   block : Block
   there : slice_get memory b ≡ Some block
   room : has_room kind offset block ≡ true
   result : after ≡ slice_set memory b (with_cell block kind offset v)
 
-stored_in : (memory after : List Block) (b : ℕ) (kind : Kind) (offset : ℕ) (v : Value) (found : Option Block) → slice_get memory b ≡ found → store_in memory b kind offset v found ≡ Some after → Stored memory after b kind offset v
+stored_in : (memory after : List Block) (b : ℕ) (kind : CCell) (offset : ℕ) (v : CValue) (found : Option Block) → slice_get memory b ≡ found → store_in memory b kind offset v found ≡ Some after → Stored memory after b kind offset v
 stored_in memory after b kind offset v None f e = cc
 stored_in memory after b kind offset v (Some x) f e =
     let c = chosen (has_room kind offset x) (slice_set memory b (with_cell x kind offset v)) after e in
     record { block = x; there = f; room = c.0; result = sym c.1 }
 
-stored : (memory after : List Block) (b o n : ℕ) (kind : Kind) (v : Value) → store memory kind (At b o) n v ≡ Some after → Stored memory after b kind (o + n) v
+stored : (memory after : List Block) (b o n : ℕ) (kind : CCell) (v : CValue) → store memory kind (At b o) n v ≡ Some after → Stored memory after b kind (o + n) v
 stored memory after b o n kind v e = stored_in memory after b kind (o + n) v (slice_get memory b) refl e
 
 -- the block that was stored to
-block_after : (memory after : List Block) (b : ℕ) (kind : Kind) (offset : ℕ) (v : Value) (s : Stored memory after b kind offset v) → slice_get after b ≡ Some (with_cell s.block kind offset v)
+block_after : (memory after : List Block) (b : ℕ) (kind : CCell) (offset : ℕ) (v : CValue) (s : Stored memory after b kind offset v) → slice_get after b ≡ Some (with_cell s.block kind offset v)
 block_after memory after b kind offset v s =
     ap (λ m. slice_get m b) s.result ∙ got_set memory b s.block (with_cell s.block kind offset v) s.there
 
 -- there is room again
-room_again : (kind : Kind) (offset : ℕ) (x : Block) (v : Value) → has_room kind offset x ≡ true → has_room kind offset (with_cell x kind offset v) ≡ true
+room_again : (kind : CCell) (offset : ℕ) (x : Block) (v : CValue) → has_room kind offset x ≡ true → has_room kind offset (with_cell x kind offset v) ≡ true
 room_again kind offset x v h =
     let fits = and_left (leb (offset + width_of kind) x.size && eqb (offset % width_of kind) 0) _ h in
     let cells = and_right (leb (offset + width_of kind) x.size && eqb (offset % width_of kind) 0) _ h in
     both _ _ fits (both _ _ (or_right (is_apart offset (width_of kind) (record { offset = offset; kind = kind; value = v })) _ (both _ _ (eqb_self offset) (same_self kind))) cells)
 
-taken : (c : Bool) (y z : Option Value) → c ≡ true → (if c then y else z) ≡ y
+taken : (c : Bool) (y z : Option CValue) → c ≡ true → (if c then y else z) ≡ y
 taken true y z h = refl
 taken false y z h = cc
 
-loaded_again : (kind : Kind) (offset : ℕ) (x : Block) (v : Value) → has_room kind offset x ≡ true → load_in kind offset (Some (with_cell x kind offset v)) ≡ Some v
+loaded_again : (kind : CCell) (offset : ℕ) (x : Block) (v : CValue) → has_room kind offset x ≡ true → load_in kind offset (Some (with_cell x kind offset v)) ≡ Some v
 loaded_again kind offset x v h =
     taken (has_room kind offset (with_cell x kind offset v)) _ None (room_again kind offset x v h)
     ∙ ap (λ c. Some (value_or (zero_of kind) (if c then Some v else latest offset x.cells))) (eqb_self offset)
@@ -130,23 +134,23 @@ blocked true false false cells h k = refl
 blocked false t u cells h k = refl
 
 -- one cell ends before the other begins
-abbrev EndsBefore : ℕ → Kind → ℕ → Kind → Type 0
+abbrev EndsBefore : ℕ → CCell → ℕ → CCell → Type 0
 EndsBefore offset kind offset' kind' = (offset + width_of kind ≤ offset') ⊎ (offset' + width_of kind' ≤ offset)
 
-apart : (offset offset' : ℕ) (kind kind' : Kind) (v : Value) → EndsBefore offset kind offset' kind' → is_apart offset' (width_of kind') (record { offset = offset; kind = kind; value = v }) ≡ true
+apart : (offset offset' : ℕ) (kind kind' : CCell) (v : CValue) → EndsBefore offset kind offset' kind' → is_apart offset' (width_of kind') (record { offset = offset; kind = kind; value = v }) ≡ true
 apart offset offset' kind kind' v h =
     ⊎_elim
     (λ before. or_right (leb (offset' + width_of kind') offset) _ (le-leb _ _ before))
     (λ behind. or_left _ (leb (offset + width_of kind) offset') (le-leb _ _ behind))
     h
 
-elsewhere : (offset offset' : ℕ) (kind kind' : Kind) → EndsBefore offset kind offset' kind' → offset ≢ offset'
+elsewhere : (offset offset' : ℕ) (kind kind' : CCell) → EndsBefore offset kind offset' kind' → offset ≢ offset'
 elsewhere offset offset' kind kind' h e =
     let one = some_bytes kind in
     let other = some_bytes kind' in
     ⊎_elim (λ (before : offset + width_of kind ≤ offset'). absurd (omega arith)) (λ (behind : offset' + width_of kind' ≤ offset). absurd (omega arith)) h
 
-loaded_elsewhere : (offset offset' : ℕ) (kind kind' : Kind) (x : Block) (v : Value) → EndsBefore offset kind offset' kind' → load_in kind' offset' (Some (with_cell x kind offset v)) ≡ load_in kind' offset' (Some x)
+loaded_elsewhere : (offset offset' : ℕ) (kind kind' : CCell) (x : Block) (v : CValue) → EndsBefore offset kind offset' kind' → load_in kind' offset' (Some (with_cell x kind offset v)) ≡ load_in kind' offset' (Some x)
 loaded_elsewhere offset offset' kind kind' x v h =
     let new : Cell = record { offset = offset; kind = kind; value = v } in
     ap (λ c. if c then Some (value_or (zero_of kind') (latest offset' (new ∷ x.cells))) else None)
@@ -155,12 +159,12 @@ loaded_elsewhere offset offset' kind kind' x v h =
     (ne_eqb offset offset' (elsewhere offset offset' kind kind' h))
 
 -- in another block
-other_block : (memory after : List Block) (b c offset offset' : ℕ) (kind kind' : Kind) (v : Value) → Stored memory after b kind offset v → b ≢ c → load_in kind' offset' (slice_get after c) ≡ load_in kind' offset' (slice_get memory c)
+other_block : (memory after : List Block) (b c offset offset' : ℕ) (kind kind' : CCell) (v : CValue) → Stored memory after b kind offset v → b ≢ c → load_in kind' offset' (slice_get after c) ≡ load_in kind' offset' (slice_get memory c)
 other_block memory after b c offset offset' kind kind' v s n =
     ap (load_in kind' offset') (ap (λ m. slice_get m c) s.result ∙ got_other memory b c (with_cell s.block kind offset v) (λ e. n (sym e)))
 
 -- in the same block
-same_block : (memory after : List Block) (b c offset offset' : ℕ) (kind kind' : Kind) (v : Value) → Stored memory after b kind offset v → b ≡ c → EndsBefore offset kind offset' kind' → load_in kind' offset' (slice_get after c) ≡ load_in kind' offset' (slice_get memory c)
+same_block : (memory after : List Block) (b c offset offset' : ℕ) (kind kind' : CCell) (v : CValue) → Stored memory after b kind offset v → b ≡ c → EndsBefore offset kind offset' kind' → load_in kind' offset' (slice_get after c) ≡ load_in kind' offset' (slice_get memory c)
 same_block memory after b c offset offset' kind kind' v s e h =
     ap (λ d. load_in kind' offset' (slice_get after d)) (sym e)
     ∙ ap (load_in kind' offset') (block_after memory after b kind offset v s)
@@ -168,7 +172,7 @@ same_block memory after b c offset offset' kind kind' v s e h =
     ∙ ap (load_in kind' offset') (sym s.there)
     ∙ ap (λ d. load_in kind' offset' (slice_get memory d)) e
 
-either_block : (memory after : List Block) (b c offset offset' : ℕ) (kind kind' : Kind) (v : Value) → Stored memory after b kind offset v → EndsBefore offset kind offset' kind' → load_in kind' offset' (slice_get after c) ≡ load_in kind' offset' (slice_get memory c)
+either_block : (memory after : List Block) (b c offset offset' : ℕ) (kind kind' : CCell) (v : CValue) → Stored memory after b kind offset v → EndsBefore offset kind offset' kind' → load_in kind' offset' (slice_get after c) ≡ load_in kind' offset' (slice_get memory c)
 either_block memory after b c offset offset' kind kind' v s h =
     ⊎_elim
     (λ e. same_block memory after b c offset offset' kind kind' v s (eqb-true b c e) h)
@@ -201,7 +205,7 @@ fresh_is_zero memory size kind o n within aligned =
 
 -- ---- what is stuck
 
-placed : (memory : List Block) (kind : Kind) (b o n : ℕ) (x : Block) → slice_get memory b ≡ Some x → has_room kind (o + n) x ≡ true → LiesInBlock memory kind (At b o) n
+placed : (memory : List Block) (kind : CCell) (b o n : ℕ) (x : Block) → slice_get memory b ≡ Some x → has_room kind (o + n) x ≡ true → LiesInBlock memory kind (At b o) n
 placed memory kind b o n x there room =
     let front = and_left (leb (o + n + width_of kind) x.size && eqb ((o + n) % width_of kind) 0) _ room in
     record {
@@ -214,7 +218,7 @@ placed memory kind b o n x there room =
       aligned = eqb-true _ _ (and_right (leb (o + n + width_of kind) x.size) (eqb ((o + n) % width_of kind) 0) front);
     }
 
-loaded_in : (memory : List Block) (kind : Kind) (b o n : ℕ) (v : Value) (found : Option Block) → slice_get memory b ≡ found → load_in kind (o + n) found ≡ Some v → LiesInBlock memory kind (At b o) n
+loaded_in : (memory : List Block) (kind : CCell) (b o n : ℕ) (v : CValue) (found : Option Block) → slice_get memory b ≡ found → load_in kind (o + n) found ≡ Some v → LiesInBlock memory kind (At b o) n
 loaded_in memory kind b o n v None f e = cc
 loaded_in memory kind b o n v (Some x) f e =
     placed memory kind b o n x f (chosen (has_room kind (o + n) x) (value_or (zero_of kind) (latest (o + n) x.cells)) v e).0
@@ -239,7 +243,7 @@ not_true : (c : Bool) → (c ≡ true → ⊥) → c ≡ false
 not_true true h = absurd (h refl)
 not_true false h = refl
 
-not_taken : (c : Bool) (y z : Option Value) → c ≡ false → (if c then y else z) ≡ z
+not_taken : (c : Bool) (y z : Option CValue) → c ≡ false → (if c then y else z) ≡ z
 not_taken true y z h = cc
 not_taken false y z h = refl
 
@@ -276,13 +280,13 @@ still_false true true cells h = h
 still_false true false cells h = refl
 still_false false new cells h = refl
 
-stuck_again : (kind kind' : Kind) (offset offset' : ℕ) (x : Block) (v : Value) → load_in kind' offset' (Some x) ≡ None → load_in kind' offset' (Some (with_cell x kind offset v)) ≡ None
+stuck_again : (kind kind' : CCell) (offset offset' : ℕ) (x : Block) (v : CValue) → load_in kind' offset' (Some x) ≡ None → load_in kind' offset' (Some (with_cell x kind offset v)) ≡ None
 stuck_again kind kind' offset offset' x v e =
     left_out (has_room kind' offset' (with_cell x kind offset v)) (value_or (zero_of kind') (latest offset' (record { offset = offset; kind = kind; value = v } ∷ x.cells)))
     (still_false (leb (offset' + width_of kind') x.size && eqb (offset' % width_of kind') 0) _ _
     (refused (has_room kind' offset' x) (value_or (zero_of kind') (latest offset' x.cells)) e))
 
-stays : (memory after : List Block) (kind kind' : Kind) (b c offset offset' : ℕ) (v : Value) → Stored memory after b kind offset v → load_in kind' offset' (slice_get memory c) ≡ None → load_in kind' offset' (slice_get after c) ≡ None
+stays : (memory after : List Block) (kind kind' : CCell) (b c offset offset' : ℕ) (v : CValue) → Stored memory after b kind offset v → load_in kind' offset' (slice_get memory c) ≡ None → load_in kind' offset' (slice_get after c) ≡ None
 stays memory after kind kind' b c offset offset' v s h =
     ⊎_elim
     (λ t. let e = eqb-true b c t in
@@ -292,7 +296,7 @@ stays memory after kind kind' b c offset offset' v s h =
     (λ t. other_block memory after b c offset offset' kind kind' v s (eqb-false b c t) ∙ h)
     (cases_Bool (eqb b c))
 
-stays_at : (memory after : List Block) (kind kind' : Kind) (b o : ℕ) (q : Value) (n m : ℕ) (v : Value) → store memory kind (At b o) n v ≡ Some after → load memory kind' q m ≡ None → load after kind' q m ≡ None
+stays_at : (memory after : List Block) (kind kind' : CCell) (b o : ℕ) (q : CValue) (n m : ℕ) (v : CValue) → store memory kind (At b o) n v ≡ Some after → load memory kind' q m ≡ None → load after kind' q m ≡ None
 stays_at memory after kind kind' b o (At c o') n m v e h = stays memory after kind kind' b c (o + n) (o' + m) v (stored memory after b o n kind v e) h
 stays_at memory after kind kind' b o Null n m v e h = refl
 stays_at memory after kind kind' b o (Int z) n m v e h = refl
@@ -306,7 +310,7 @@ stuck_stays memory after kind kind' (Int z) q n m v e h = cc
 stuck_stays memory after kind kind' (Unsigned k) q n m v e h = cc
 stuck_stays memory after kind kind' (Long z) q n m v e h = cc
 
-alike_in : (memory : List Block) (kind : Kind) (b offset : ℕ) (v : Value) (found : Option Block) → (store_in memory b kind offset v found ≡ None) ↔ (load_in kind offset found ≡ None)
+alike_in : (memory : List Block) (kind : CCell) (b offset : ℕ) (v : CValue) (found : Option Block) → (store_in memory b kind offset v found ≡ None) ↔ (load_in kind offset found ≡ None)
 alike_in memory kind b offset v None = (λ e. refl, λ e. refl)
 alike_in memory kind b offset v (Some x) =
     let held = value_or (zero_of kind) (latest offset x.cells) in

@@ -1,10 +1,14 @@
 pub mod Tree
 pub mod View
+pub mod Memory
+pub mod Laws
 pub mod Tokens
+pub mod Grammar
 pub mod WellFormed
 pub mod Spelling
-pub mod Printing
-pub mod Memory
 pub mod CMeaning
 pub mod CRun
-pub mod Laws
+pub mod Examples
+pub mod Settles
+pub mod Printing
+pub mod Lexing

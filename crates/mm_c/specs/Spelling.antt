@@ -1,88 +1,37 @@
--- How a program is spelled: its tokens, by the rules of the grammar, and the texts that have these tokens. (Own.)
-use Rattle.std.specs.Prelude.{◌≡◌, ℕ, List, [], ◌∷◌, ◌++◌, codes, flat_map}
-use Rattle.std.specs.Fmt.{decimal}
-use Rattle.mm_c.specs.declared.tree.COperator.{COperator}
-use Rattle.mm_c.specs.declared.tree.COperator.TheVariants.{Add, Subtract, Less, Greater, LessEqual, GreaterEqual, Equal, NotEqual}
-use Rattle.mm_c.specs.Tree.{Atom, name, number, least, Right, copy, binary, call, Stmt, assign, run, if_only, if_else, return, Block, block, Code, done, do_then, Function, Program}
-use Rattle.mm_c.specs.Tokens.{tokens_of}
-use Rattle.mm_c.specs.WellFormed.{IsWellFormed}
+-- Which program a text spells, and where it is refused that spells none. (Own.)
+use Rattle.std.specs.Prelude.{◌≡◌, ◌⊎◌, true, false, ℕ, List, [], ◌∷◌, Some}
+use Rattle.std.specs.List.{list_any}
+use Rattle.mm_grammar.specs.Grammar.{name, Spells, Reads, Fails}
+use Rattle.mm_c.specs.Tree.{Program}
+use Rattle.mm_c.specs.Tokens.{Token, Place, first_place, end_from, tokens_of}
+use Rattle.mm_c.specs.Grammar.{Placed, program, texts}
+use Rattle.mm_c.specs.WellFormed.{breaks, has_main, well_formed, is_true, first_broken}
 
--- an operand: `x`, `7`, or `( - 2147483647 - 1 )`
-abbrev pub atom_tokens : Atom → List (List ℕ)
-atom_tokens (name x) = x ∷ []
-atom_tokens (number n) = decimal n ∷ []
-atom_tokens least = codes "(" ∷ codes "-" ∷ codes "2147483647" ∷ codes "-" ∷ codes "1" ∷ codes ")" ∷ []
+-- The text is one of the grammar, with this tree, and with these places of its items and statements.
+abbrev pub Parses : List ℕ → Program → List Place → Type 0
+Parses text p places = Spells texts (name program) (tokens_of text) (record { tree = p; places = places })
 
-abbrev pub operator_token : COperator → List ℕ
-operator_token Add = codes "+"
-operator_token Subtract = codes "-"
-operator_token Less = codes "<"
-operator_token Greater = codes ">"
-operator_token LessEqual = codes "<="
-operator_token GreaterEqual = codes ">="
-operator_token Equal = codes "=="
-operator_token NotEqual = codes "!="
-
--- an operand behind others
-abbrev pub next_atom : Atom → List (List ℕ)
-next_atom a = codes "," ∷ atom_tokens a
-
--- operands, joined by commas
-abbrev pub atoms_tokens : List Atom → List (List ℕ)
-atoms_tokens [] = []
-atoms_tokens (a ∷ more) = atom_tokens a ++ flat_map next_atom more
-
--- `f ( atoms )`
-abbrev pub call_tokens : List ℕ → List Atom → List (List ℕ)
-call_tokens f atoms = f ∷ codes "(" ∷ atoms_tokens atoms ++ codes ")" ∷ []
-
--- the right side of an assignment
-abbrev pub right_tokens : Right → List (List ℕ)
-right_tokens (copy a) = atom_tokens a
-right_tokens (binary a o b) = atom_tokens a ++ operator_token o ∷ atom_tokens b
-right_tokens (call f atoms) = call_tokens f atoms
-
--- `int x = 0 ;`
-abbrev pub local_tokens : List ℕ → List (List ℕ)
-local_tokens x = codes "int" ∷ x ∷ codes "=" ∷ codes "0" ∷ codes ";" ∷ []
-
--- `if ( a )`, and the tokens of the block
-abbrev pub if_tokens : Atom → List (List ℕ) → List (List ℕ)
-if_tokens a inner = codes "if" ∷ codes "(" ∷ atom_tokens a ++ codes ")" ∷ inner
-
-abbrev mutual
-  pub stmt_tokens : Stmt → List (List ℕ)
-  stmt_tokens (assign x r) = x ∷ codes "=" ∷ right_tokens r ++ codes ";" ∷ []
-  stmt_tokens (run f atoms) = call_tokens f atoms ++ codes ";" ∷ []
-  stmt_tokens (if_only a b) = if_tokens a (block_tokens b)
-  stmt_tokens (if_else a b c) = if_tokens a (block_tokens b) ++ codes "else" ∷ block_tokens c
-  stmt_tokens (return a) = codes "return" ∷ atom_tokens a ++ codes ";" ∷ []
-
-  -- `{`, the locals, the statements, `}`
-  pub block_tokens : Block → List (List ℕ)
-  block_tokens (block xs code) = codes "{" ∷ flat_map local_tokens xs ++ code_tokens code ++ codes "}" ∷ []
-
-  pub code_tokens : Code → List (List ℕ)
-  code_tokens done = []
-  code_tokens (do_then s more) = stmt_tokens s ++ code_tokens more
-
--- the functions that a program is given, which stand before its own
-abbrev pub prelude_tokens : List (List ℕ)
-prelude_tokens =
-    codes "extern" ∷ codes "void" ∷ codes "mm_put" ∷ codes "(" ∷ codes "int" ∷ codes ")" ∷ codes ";"
-    ∷ codes "extern" ∷ codes "int" ∷ codes "mm_get" ∷ codes "(" ∷ codes "void" ∷ codes ")" ∷ codes ";"
-    ∷ codes "extern" ∷ codes "int" ∷ codes "mm_more" ∷ codes "(" ∷ codes "void" ∷ codes ")" ∷ codes ";"
-    ∷ codes "extern" ∷ codes "void" ∷ codes "mm_trap" ∷ codes "(" ∷ codes "int" ∷ codes ")" ∷ codes ";"
-    ∷ codes "extern" ∷ codes "char" ∷ codes "*" ∷ codes "mm_new" ∷ codes "(" ∷ codes "unsigned" ∷ codes ")" ∷ codes ";" ∷ []
-
--- `int f ( void )`, and the block
-abbrev pub function_tokens : Function → List (List ℕ)
-function_tokens f = codes "int" ∷ f.name ∷ codes "(" ∷ codes "void" ∷ codes ")" ∷ block_tokens f.body
-
-abbrev pub program_tokens : Program → List (List ℕ)
-program_tokens p = prelude_tokens ++ flat_map function_tokens p.functions
-
--- The text spells the program: it has the program's tokens, and the program is well formed.
+-- The text spells the program.
 pub record SpellsProgram (text : List ℕ) (p : Program) : Type 0 where
-  pub tokens : tokens_of text ≡ program_tokens p
-  pub well_formed : IsWellFormed p
+  pub places : List Place
+  pub parses : Parses text p places
+  pub well_formed : well_formed p ≡ true
+
+-- the place of the first token of a rest, or the end
+abbrev pub place_of : List ℕ → List Token → Place
+place_of text [] = end_from first_place text
+place_of text (t ∷ ts) = t.place
+
+-- No text of the grammar goes on with the first token of the rest; where there is none, the whole is no text of it.
+abbrev pub BreaksGrammar : List ℕ → Place → Type 0
+BreaksGrammar text place = (rest : List Token) × (place ≡ place_of text rest)
+    × (Fails texts (name program) (tokens_of text) rest ⊎ ((v : Placed Program) × (t : Token) × (more : List Token) × (rest ≡ t ∷ more) × Reads texts (name program) (tokens_of text) v rest))
+
+-- The first item or statement that breaks a rule stands there; or none does, `main` is missing, and the place is 1:1.
+abbrev pub BreaksRule : List ℕ → Place → Type 0
+BreaksRule text place = (p : Program) × (places : List Place) × Parses text p places
+    × ((first_broken (breaks p) places ≡ Some place) ⊎ ((list_any is_true (breaks p) ≡ false) × (has_main p ≡ false) × (place ≡ first_place)))
+
+-- Where a text that spells no program is refused.
+abbrev pub RefusedAt : List ℕ → Place → Type 0
+RefusedAt text place = BreaksGrammar text place ⊎ BreaksRule text place

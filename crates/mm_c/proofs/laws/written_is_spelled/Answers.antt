@@ -1,4 +1,4 @@
-use Rattle.mm_c.proofs.Spelled.{written_is_spelled}
+use Rattle.mm_c.proofs.Printed.{written_is_spelled}
 use Rattle.mm_c.proofs.laws.written_is_spelled.Goals as goal
 
 pub returns : goal.returns
