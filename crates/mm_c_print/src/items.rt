@@ -10,7 +10,9 @@ use crate::statements::put_block;
 use crate::tokens::{put_kind, put_number, put_token};
 use mm_base::code::NoMemory;
 use mm_base::text::Text;
-use mm_c::tree::{CArray, CElement, CFn, CItem, CKind, CLinkage, CLocal, CProgram, CProto, CTypedef};
+use mm_c::tree::{
+    CArray, CElement, CFn, CItem, CKind, CLinkage, CLocal, CProgram, CProto, CTypedef,
+};
 use std::alloc::{AllocError, Global};
 
 const PRELUDE: &[u8] =
@@ -109,12 +111,10 @@ fn put_array_type(out: &mut Vec<u8>, functions: &Option<Text>) -> Result<(), All
 
 // the name of an array, and its length
 fn put_array_head(out: &mut Vec<u8>, array: &CArray) -> Result<(), AllocError>
-    ensures {
-        OnOk result
-            (out.new.items ≡ out.old.items ++ text_of
-                (codes "static" ∷ codes "const" ∷ array_type array.now.functions ∷ array.now.name ∷ codes "["
-                    ∷ number_text array.now.length ∷ codes "]" ∷ codes "=" ∷ codes "{" ∷ []))
-    }
+    ensures { OnOk result
+        (out.new.items ≡ out.old.items ++ text_of
+        (codes "static" ∷ codes "const" ∷ array_type array.now.functions ∷ array.now.name ∷ codes "["
+        ∷ number_text array.now.length ∷ codes "]" ∷ codes "=" ∷ codes "{" ∷ [])) }
 {
     out.extend_from_slice(b"static const ")?;
     put_array_type(out, &array.functions)?;

@@ -3,9 +3,9 @@
 ghost use Rattle.std.specs.Prelude.{◌≡◌, codes, [], ◌∷◌, ◌++◌, if◌then◌else◌, OnOk, flat_map};
 ghost use Rattle.mm_c.specs.Printing.{separator, written, text_of, number_text, suffix, kind_tokens, atom_tokens, operator_token, cell_tokens, address_tokens, place_tokens, next_of, joined, arguments_tokens, call_tokens, index_tokens, right_tokens};
 
+use itoa::Buffer;
 use mm_c::tree::{CAddress, CAtom, CCall, CExpr, CIndex, CKind, CNumber, COperator};
 use mm_c::value::CCell;
-use itoa::Buffer;
 use std::alloc::AllocError;
 
 fn ends_line(token: &[u8]) -> bool

@@ -1,13 +1,12 @@
 -- Items, one after another.
-use Rattle.std.specs.Prelude.{Bool, true, false, not, ◌&&◌, nat_le, nat_lt}
+use Rattle.std.specs.Prelude.{Bool, true, false, ◌&&◌, nat_le, nat_lt}
 use Rattle.std.specs.List.{list_any}
-use Rattle.std.proofs.Common.{◌≡◌, ℕ, suc, ◌+◌, ◌<◌, List, [], ◌∷◌, ◌++◌, length, take, drop, get_or, map, refl, sym, ap, ◌∙◌, arith}
+use Rattle.std.proofs.Common.{◌≡◌, ℕ, ◌+◌, ◌<◌, List, ◌∷◌, ◌++◌, length, take, drop, get_or, map, refl, sym, ap, ◌∙◌, arith}
 use Rattle.std.proofs.lemmas.List.{drop_more}
 use Rattle.mm_c.specs.declared.tree.CItem.{CItem}
 use Rattle.mm_c.specs.declared.tree.CFn.{CFn}
-use Rattle.mm_c.specs.Tree.{Item, typedef, array, proto, function, Program}
 use Rattle.mm_c.specs.View.{item_view, block_view, function_view, program_view}
-use Rattle.mm_c.specs.WellFormed.{Table, with_item, prelude, is_name, may_define, entry_in, head_fits, locals_fit, locals_of, depth_of, function_fits, item_fits, inner_breaks, items_break, breaks, globals_of, is_main, has_main, is_true, well_formed, definitions}
+use Rattle.mm_c.specs.WellFormed.{Table, with_item, prelude, is_name, may_define, entry_in, head_fits, locals_fit, depth_of, function_fits, item_fits, inner_breaks, items_break, is_main, well_formed, definitions}
 use Rattle.mm_c_rules.specs.Entries.{table_of}
 use Rattle.mm_c_rules.specs.Keeps.{keeps}
 use Rattle.mm_c_rules.specs.Locals.{globals_in, all_locals}
@@ -52,14 +51,14 @@ definitions_more x is i d l at = ap (λ y. definitions x (map item_view y)) (dro
 pub items_more : (g : List (List ℕ)) (is : List CItem) (i : ℕ) (d : CItem) → i < length is → d ≡ get_or is i d →
     keeps (items_break (table_of (take i is)) g (map item_view (drop i is)))
     ≡ ((item_fits (table_of (take i is)) g (map item_view (drop (i + 1) is)) (item_view d) && keeps (inner_breaks (table_of (take (i + 1) is)) (item_view d)))
-        && keeps (items_break (table_of (take (i + 1) is)) g (map item_view (drop (i + 1) is))))
+    && keeps (items_break (table_of (take (i + 1) is)) g (map item_view (drop (i + 1) is))))
 items_more g is i d l at =
     ap (λ y. keeps (items_break (table_of (take i is)) g (map item_view y))) (drop_more is i d l)
     ∙ ap (λ y. keeps (items_break (table_of (take i is)) g (item_view y ∷ map item_view (drop (i + 1) is)))) (sym at)
     ∙ keeps-cons (item_fits (table_of (take i is)) g (map item_view (drop (i + 1) is)) (item_view d)) (inner_breaks (with_item (table_of (take i is)) (item_view d)) (item_view d) ++ items_break (with_item (table_of (take i is)) (item_view d)) g (map item_view (drop (i + 1) is)))
     ∙ ap (λ z. item_fits (table_of (take i is)) g (map item_view (drop (i + 1) is)) (item_view d) && z)
-        (keeps-append (inner_breaks (with_item (table_of (take i is)) (item_view d)) (item_view d)) (items_break (with_item (table_of (take i is)) (item_view d)) g (map item_view (drop (i + 1) is)))
-        ∙ ap (λ t. keeps (inner_breaks t (item_view d)) && keeps (items_break t g (map item_view (drop (i + 1) is)))) (sym (table_more is i d l ∙ ap (λ y. with_item (table_of (take i is)) (item_view y)) (sym at))))
+    (keeps-append (inner_breaks (with_item (table_of (take i is)) (item_view d)) (item_view d)) (items_break (with_item (table_of (take i is)) (item_view d)) g (map item_view (drop (i + 1) is)))
+    ∙ ap (λ t. keeps (inner_breaks t (item_view d)) && keeps (items_break t g (map item_view (drop (i + 1) is)))) (sym (table_more is i d l ∙ ap (λ y. with_item (table_of (take i is)) (item_view y)) (sym at))))
     ∙ and-assoc (item_fits (table_of (take i is)) g (map item_view (drop (i + 1) is)) (item_view d)) (keeps (inner_breaks (table_of (take (i + 1) is)) (item_view d))) (keeps (items_break (table_of (take (i + 1) is)) g (map item_view (drop (i + 1) is))))
 
 pub well_formed_parts : (is : List CItem) → well_formed (program_view (record { items = is })) ≡ (keeps (items_break prelude (globals_in is) (map item_view is)) && list_any is_main (map item_view is))

@@ -2,7 +2,6 @@
 use Rattle.std.specs.Prelude.{◌≡◌, ℕ, ◌<◌, true, false, List, [], ◌∷◌, length, map, take, get_or, Option, Some, None}
 use Rattle.std.specs.Borrow.{Bor}
 use Rattle.mm_c.specs.declared.tree.CKind.{CKind}
-use Rattle.mm_c.specs.declared.tree.CLocal.{CLocal}
 use Rattle.mm_c.specs.declared.tree.CTypedef.{CTypedef}
 use Rattle.mm_c.specs.declared.tree.CCall.{CCall}
 use Rattle.mm_c.specs.declared.tree.CCall.TheVariants.{Named, Element}

@@ -55,13 +55,20 @@ pub fn param_kind(params: &Params<'_>, i: usize) -> Option<CKind>
 }
 
 const NONE: &[CKind] = &[];
+
 const INT: &[CKind] = &[CKind::Int];
+
 const UNSIGNED: &[CKind] = &[CKind::Unsigned];
 
 fn given(kind: Option<CKind>, kinds: &'static [CKind]) -> Entry<'static>
     ensures { entry_view result ≡ callable false true kind kinds.now }
 {
-    Entry::Callable(Head { is_inline: false, is_defined: true, result: kind, params: Params::Kinds(kinds) })
+    Entry::Callable(Head {
+        is_inline: false,
+        is_defined: true,
+        result: kind,
+        params: Params::Kinds(kinds),
+    })
 }
 
 pub fn prelude_entry(name: &[u8]) -> Option<Entry<'static>>

@@ -194,13 +194,11 @@ fn array_fits(before: &[CItem], array: &CArray) -> bool
 
 // the function of the name, if the item defines it
 fn as_definition<'a>(item: &'a CItem, name: &Text) -> Option<&'a CFn>
-    ensures {
-        (more : List Item) →
-            MatchOption result
-                (definitions name.now (item_view item.now ∷ more) ≡ definitions name.now more)
-                (λ f. definitions name.now (item_view item.now ∷ more)
-                    ≡ function_view f.now ∷ definitions name.now more)
-    }
+    ensures { (more : List Item) →
+        MatchOption result
+        (definitions name.now (item_view item.now ∷ more) ≡ definitions name.now more)
+        (λ f. definitions name.now (item_view item.now ∷ more)
+        ≡ function_view f.now ∷ definitions name.now more) }
 {
     match item {
         CItem::Typedef(_) => None,
@@ -218,11 +216,9 @@ fn as_definition<'a>(item: &'a CItem, name: &Text) -> Option<&'a CFn>
 // the first definition of a name, and the items behind it
 #[tactic(auto, using(crate::proofs::Sequence::definitions_more))]
 fn next_definition<'a>(items: &'a [CItem], name: &Text) -> Option<(&'a CFn, &'a [CItem])>
-    ensures {
-        MatchOption result (definitions name.now (map item_view items.now) ≡ [])
-            (λ d. definitions name.now (map item_view items.now)
-                ≡ function_view d.0.now ∷ definitions name.now (map item_view d.1.now))
-    }
+    ensures { MatchOption result (definitions name.now (map item_view items.now) ≡ [])
+        (λ d. definitions name.now (map item_view items.now)
+        ≡ function_view d.0.now ∷ definitions name.now (map item_view d.1.now)) }
 {
     for i in 0..items.len() {
         if let Some(function) = as_definition(&items[i], name) {
@@ -312,10 +308,8 @@ fn may_be_defined(before: &[CItem], name: &Text) -> bool
 }
 
 fn head_may_stand(before: &[CItem], function: &CFn) -> bool
-    ensures {
-        result ≡ (is_name function.now.name && may_define (entry_in (table_of before.now) function.now.name)
-            && head_fits (function_view function.now))
-    }
+    ensures { result ≡ (is_name function.now.name && may_define (entry_in (table_of before.now) function.now.name)
+        && head_fits (function_view function.now)) }
 {
     may_be_defined(before, &function.name) && head_fits(function)
 }

@@ -240,7 +240,8 @@ fn stmt_is_fine(stmt: &CStmt, names: &Names<'_>) -> bool
         CStmt::Store(_, _, _) => true,
         CStmt::Call(_) => true,
         CStmt::If(_, block) => block_is_fine(block, names),
-        CStmt::IfElse(_, block, other) => block_is_fine(block, names) && block_is_fine(other, names),
+        CStmt::IfElse(_, block, other) => block_is_fine(block, names)
+            && block_is_fine(other, names),
         CStmt::While(block) => block_is_fine(block, names),
         CStmt::Break => true,
         CStmt::Continue => true,
@@ -285,7 +286,11 @@ fn names_of<'a>(items: &'a [CItem], function: &'a CFn) -> Names<'a>
     ensures items { result.items.now ≡ items.now }
     ensures function { result.function.now ≡ function.now }
 {
-    Names { items, function, has_inner: has_inner_locals(&function.body) }
+    Names {
+        items,
+        function,
+        has_inner: has_inner_locals(&function.body),
+    }
 }
 
 // the parameters and then the locals

@@ -184,7 +184,13 @@ fn int_operands_fit(here: &Here<'_>, first: &CAtom, operator: COperator, second:
 }
 
 /// Whether an operation has a result of the kind.
-pub fn binary_fits(here: &Here<'_>, kind: CKind, first: &CAtom, operator: COperator, second: &CAtom) -> bool
+pub fn binary_fits(
+    here: &Here<'_>,
+    kind: CKind,
+    first: &CAtom,
+    operator: COperator,
+    second: &CAtom,
+) -> bool
     ensures { result ≡ binary_fits (here_view here.now) kind first.now operator second.now }
 {
     match kind {

@@ -44,11 +44,9 @@ fn inside_keeps(before: &[CItem], item: &CItem) -> bool
 // the item at this place, and the statements in it
 fn one_keeps(items: &[CItem], i: usize, item: &CItem) -> bool
     requires { i < length items.now }
-    ensures {
-        result ≡ (item_fits (table_of (take i items.now)) (globals_in items.now)
-                (map item_view (drop (i + 1) items.now)) (item_view item.now)
-            && keeps (inner_breaks (table_of (take (i + 1) items.now)) (item_view item.now)))
-    }
+    ensures { result ≡ (item_fits (table_of (take i items.now)) (globals_in items.now)
+        (map item_view (drop (i + 1) items.now)) (item_view item.now)
+        && keeps (inner_breaks (table_of (take (i + 1) items.now)) (item_view item.now))) }
 {
     item_fits(&items[..i], items, &items[i + 1..], item) && inside_keeps(&items[..i + 1], item)
 }

@@ -70,7 +70,10 @@ pub fn stmt_keeps(stmt: &CStmt, here: &Here<'_>) -> bool
             fits(here, CKind::Int, atom) && block_keeps(block, here) && block_keeps(other, here)
         }
         CStmt::While(block) => {
-            let inner = Here { in_loop: true, ..*here };
+            let inner = Here {
+                in_loop: true,
+                ..*here
+            };
             !here.inside_inline && block_keeps(block, &inner)
         }
         CStmt::Break => here.in_loop,
@@ -86,7 +89,10 @@ pub fn block_keeps(block: &CBlock, here: &Here<'_>) -> bool
     ensures { result ≡ keeps (block_breaks (here_view here.now) (block_view block.now)) }
 {
     let scope = Scope::Block(block.locals.as_slice(), here.scope);
-    let inner = Here { scope: &scope, ..*here };
+    let inner = Here {
+        scope: &scope,
+        ..*here
+    };
     code_keeps(block.body.as_slice(), &inner)
 }
 

@@ -1,4 +1,4 @@
-use Rattle.std.proofs.Common.{◌≡◌, ◌++◌, take, map, flat_map}
+use Rattle.std.proofs.Common.{◌≡◌, ◌++◌, take, flat_map}
 use Rattle.mm_c.specs.Printing.{text_of, next_of, element_tokens}
 use Rattle.mm_c_print.proofs.items.put_elements.Given as goal
 

@@ -1,5 +1,5 @@
-use Rattle.std.specs.Prelude.{◌&&◌, true, false}
-use Rattle.std.proofs.Common.{◌≡◌, ◌+◌, drop, sym, ap, ◌∙◌}
+use Rattle.std.specs.Prelude.{◌&&◌}
+use Rattle.std.proofs.Common.{◌+◌, drop, sym, ap, ◌∙◌}
 use Rattle.std.proofs.lemmas.Option.{get_or_from_slice_get}
 use Rattle.mm_c.specs.WellFormed.{same_kinds}
 use Rattle.mm_c_rules.specs.Entries.{params_view}

@@ -1,7 +1,6 @@
-use Rattle.std.specs.Prelude.{◌&&◌, true, false}
-use Rattle.std.proofs.Common.{◌≡◌, ◌+◌, drop, sym, ap, ◌∙◌}
+use Rattle.std.specs.Prelude.{◌&&◌}
+use Rattle.std.proofs.Common.{◌+◌, drop, sym, ap, ◌∙◌}
 use Rattle.mm_c.specs.WellFormed.{same_params}
-use Rattle.mm_c_rules.specs.Entries.{params_view}
 use Rattle.mm_c_rules.proofs.Pairs.{locals_more, locals_short, within_more}
 use Rattle.mm_c_rules.proofs.items.same_params.Goals as goal
 

@@ -1,4 +1,4 @@
-use Rattle.std.proofs.Common.{◌≡◌, sym, ◌∙◌}
+use Rattle.std.proofs.Common.{sym, ◌∙◌}
 use Rattle.mm_c.specs.View.{code_view}
 use Rattle.mm_c.specs.WellFormed.{code_locals}
 use Rattle.mm_c_rules.specs.Locals.{met_in}

@@ -1,4 +1,4 @@
-use Rattle.std.proofs.Common.{◌≡◌, drop, map}
+use Rattle.std.proofs.Common.{◌≡◌, drop}
 use Rattle.mm_c.specs.View.{code_view}
 use Rattle.mm_c.specs.WellFormed.{code_locals}
 use Rattle.mm_c.specs.Printing.{is_some_list}

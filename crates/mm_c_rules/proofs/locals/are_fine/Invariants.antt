@@ -1,4 +1,4 @@
-use Rattle.std.proofs.Common.{◌≡◌, drop, map}
+use Rattle.std.proofs.Common.{◌≡◌, drop}
 use Rattle.mm_c.specs.WellFormed.{list_every}
 use Rattle.mm_c_rules.specs.Locals.{globals_in, all_locals, is_fine}
 use Rattle.mm_c_rules.proofs.locals.are_fine.Given as goal

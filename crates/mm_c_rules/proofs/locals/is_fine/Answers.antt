@@ -1,5 +1,5 @@
 use Rattle.std.specs.Prelude.{not, ◌&&◌}
-use Rattle.std.proofs.Common.{◌≡◌, ap, ◌∙◌}
+use Rattle.std.proofs.Common.{ap, ◌∙◌}
 use Rattle.mm_c.specs.WellFormed.{is_name, is_in}
 use Rattle.mm_c_rules.specs.declared.locals.Met.TheVariants.{Never}
 use Rattle.mm_c_rules.specs.Locals.{globals_in, all_locals, is_once, met_in}

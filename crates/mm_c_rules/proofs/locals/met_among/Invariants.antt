@@ -1,4 +1,4 @@
-use Rattle.std.proofs.Common.{◌≡◌, drop, map}
+use Rattle.std.proofs.Common.{◌≡◌, drop}
 use Rattle.mm_c_rules.specs.Locals.{met_in}
 use Rattle.mm_c_rules.proofs.locals.met_among.Given as goal
 

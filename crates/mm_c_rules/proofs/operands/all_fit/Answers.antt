@@ -1,7 +1,7 @@
-use Rattle.std.specs.Prelude.{◌&&◌, true, false}
-use Rattle.std.proofs.Common.{rules, ◌≡◌, ◌+◌, drop, sym, ap, ◌∙◌, arith}
+use Rattle.std.specs.Prelude.{◌&&◌}
+use Rattle.std.proofs.Common.{◌+◌, drop, sym, ap, ◌∙◌, arith}
 use Rattle.std.proofs.lemmas.Option.{slice_get_within}
-use Rattle.mm_c.specs.WellFormed.{fits, all_fit}
+use Rattle.mm_c.specs.WellFormed.{all_fit}
 use Rattle.mm_c_rules.specs.Entries.{params_view}
 use Rattle.mm_c_rules.specs.Scopes.{here_view}
 use Rattle.mm_c_rules.proofs.Arguments.{fit_more, fit_short}

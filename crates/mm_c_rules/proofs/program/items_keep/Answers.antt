@@ -1,5 +1,5 @@
 use Rattle.std.specs.Prelude.{◌&&◌}
-use Rattle.std.proofs.Common.{◌≡◌, ◌+◌, take, drop, map, sym, ap, ◌∙◌}
+use Rattle.std.proofs.Common.{◌+◌, take, drop, map, sym, ap, ◌∙◌}
 use Rattle.mm_c.specs.View.{item_view}
 use Rattle.mm_c.specs.WellFormed.{items_break}
 use Rattle.mm_c_rules.specs.Entries.{table_of}
