@@ -12,15 +12,9 @@ use Rattle.mm_syntax.specs.Rules.{units, unit}
 use Rattle.mm_cursor.specs.declared.Stop.{Stop}
 use Rattle.mm_cursor.specs.declared.Stop.TheVariants as stop
 use Rattle.mm_cursor.specs.Cursor.{Answers}
-<<<<<<< HEAD
 use Rattle.mm_base.specs.declared.code.TheConstants.Code.{Y1, Y2}
-use Rattle.mm_parse_unit.specs.Units.{nesting, unlimited, IsFront, KeepsCount, IsUnit, IsSyntaxFault, IsTreeOf}
-use Rattle.mm_parse_unit.specs.Reading.{IsFirstPast, IsReading, IsNoText, StopsBefore, GoesOn, unit_of}
-=======
-use Rattle.mm_parse_expr.specs.Longest.{y1, y2}
 use Rattle.mm_parse_unit.specs.Units.{nesting, IsFront, KeepsCount, IsUnit, IsSyntaxFault, IsTreeOf}
 use Rattle.mm_parse_unit.specs.Reading.{unlimited, IsFirstPast, IsReading, IsNoText, StopsBefore, GoesOn, unit_of}
->>>>>>> 592f07e9c5979a139b9242e860e0583715584700
 use Rattle.mm_parse_unit.proofs.Elsewhere.{whole}
 use Rattle.mm_parse_unit.proofs.OneAnswer.{keeps_front}
 use Rattle.mm_parse_unit.proofs.Shallow.{as_many}
@@ -53,13 +47,8 @@ too_deep ts at t end w s h =
       place_is = refl;
     })
 
-<<<<<<< HEAD
-pub no_unit_at : (ts : List Token) (at : ℕ) (t : Token) (end : Place) → at < length ts → StopsBefore ts at → GoesOn (take (at + 1) ts) false → IsSyntaxFault ts end Y1 (slice_index_or ts at t).place
-no_unit_at ts at t end w s h =
-=======
-pub no_unit_at : (ts : List Token) (at : ℕ) (t : Token) (end : Place) → length ts ≤ 2 ^ 20 → at < length ts → StopsBefore ts at → GoesOn (take (at + 1) ts) false → IsSyntaxFault ts end y1 (slice_index_or ts at t).place
+pub no_unit_at : (ts : List Token) (at : ℕ) (t : Token) (end : Place) → length ts ≤ 2 ^ 20 → at < length ts → StopsBefore ts at → GoesOn (take (at + 1) ts) false → IsSyntaxFault ts end Y1 (slice_index_or ts at t).place
 no_unit_at ts at t end short w s h =
->>>>>>> 592f07e9c5979a139b9242e860e0583715584700
     let e : take (at + 1) ts ≡ take at ts ++ slice_index_or ts at t ∷ [] = take_more ts at t w in
     inl (record {
       front = take at ts;

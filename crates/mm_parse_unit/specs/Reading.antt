@@ -1,6 +1,7 @@
 -- What the parts of the parser say of a unit's tokens. Own.
 use Rattle.std.specs.Prelude.{◌≡◌, ℕ, suc, ◌^◌, ◌<◌, ◌≤◌, Bool, true, false, List, [], ◌∷◌, ◌++◌, length, take, map}
 use Rattle.mm_grammar.specs.Grammar.{has, name, Spells, Stuck}
+use Rattle.mm_base.specs.declared.limits.TheConstants.{MAX_UNIT_BYTES}
 use Rattle.mm_base.specs.declared.place.Place.{Place}
 use Rattle.mm_token.specs.declared.token.Token.{Token}
 use Rattle.mm_token.specs.declared.token.Tokens.{Tokens}
@@ -52,7 +53,7 @@ pub record StopsBefore (tokens : List Token) (at : ℕ) : Type 0 where
 
 -- so many statements as no unit has one inside the other: there are as many bytes in the longest
 abbrev pub unlimited : ℕ
-unlimited = 2 ^ 20
+unlimited = MAX_UNIT_BYTES
 
 -- whether a unit may begin with the tokens, where so many statements may stand one inside the other
 abbrev pub GoesOn : List Token → Bool → Type 0

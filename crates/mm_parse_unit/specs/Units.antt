@@ -1,24 +1,16 @@
 -- What a unit is, its two limits, and the first syntax fault. Own.
-<<<<<<< HEAD
-use Rattle.std.specs.Prelude.{◌≡◌, ℕ, ◌≤◌, List, [], ◌∷◌, ◌++◌, ◌⊎◌, take, Result, Ok, Err}
-=======
 use Rattle.std.specs.Prelude.{◌≡◌, ℕ, false, List, [], ◌∷◌, ◌++◌, ◌⊎◌, length, take, Result, Ok, Err}
->>>>>>> 592f07e9c5979a139b9242e860e0583715584700
 use Rattle.mm_grammar.specs.Grammar.{name, Spells, Front}
 use Rattle.mm_base.specs.declared.code.Code.{Code}
 use Rattle.mm_base.specs.declared.code.TheConstants.Code.{Y1, Y2}
-use Rattle.mm_base.specs.declared.limits.TheConstants.{MAX_UNIT_BYTES, MAX_TOKEN_RUN, MAX_NESTING}
+use Rattle.mm_base.specs.declared.limits.TheConstants.{MAX_TOKEN_RUN, MAX_NESTING}
 use Rattle.mm_base.specs.declared.place.Place.{Place}
 use Rattle.mm_token.specs.declared.token.Token.{Token}
 use Rattle.mm_token.specs.declared.token.Tokens.{Tokens}
 use Rattle.mm_syntax.specs.declared.decl.Decl.{Decl}
 use Rattle.mm_syntax.specs.declared.decl.Unit.{Unit as UnitTree}
 use Rattle.mm_syntax.specs.Rules.{units, unit}
-<<<<<<< HEAD
-use Rattle.mm_parse_expr.specs.Longest.{count_from, place_of}
-=======
-use Rattle.mm_parse_expr.specs.Longest.{ends_count, place_of, y1, y2}
->>>>>>> 592f07e9c5979a139b9242e860e0583715584700
+use Rattle.mm_parse_expr.specs.Longest.{ends_count, place_of}
 use Rattle.mm_parse_expr.specs.declared.ParseEnd.{ParseEnd}
 use Rattle.mm_parse_expr.specs.declared.ParseEnd.TheVariants as end_is
 
@@ -26,35 +18,22 @@ use Rattle.mm_parse_expr.specs.declared.ParseEnd.TheVariants as end_is
 abbrev pub nesting : ℕ
 nesting = MAX_NESTING
 
-<<<<<<< HEAD
--- as many as there are bytes in the longest unit, which is no limit
-abbrev pub unlimited : ℕ
-unlimited = MAX_UNIT_BYTES
-
-=======
->>>>>>> 592f07e9c5979a139b9242e860e0583715584700
 -- A unit may begin with these tokens, where so many statements may stand one inside the other.
 abbrev pub IsFront : ℕ → List Token → Type 0
 IsFront n tokens = Front units (name (unit n)) tokens
 
-<<<<<<< HEAD
--- The token after these is past the limit: so many stand between the last `;`, `{` or `}` and it.
-abbrev pub IsPastCount : List Token → Type 0
-IsPastCount before = MAX_TOKEN_RUN ≤ count_from 0 before
-=======
 -- none of these is `;`, `{` or `}`
 abbrev pub NoStops : List Token → Type 0
 NoStops [] = Unit {0}
 NoStops (t ∷ ts) = (ends_count t ≡ false) × NoStops ts
 
--- The token after these is past the limit: they end in 1,000 of which none is `;`, `{` or `}`.
+-- The token after these is past the limit: they end in so many of which none is `;`, `{` or `}`.
 pub record IsPastCount (before : List Token) : Type 0 where
   pub first : List Token
   pub last : List Token
   pub cut : before ≡ first ++ last
-  pub many : length last ≡ 1000
+  pub many : length last ≡ MAX_TOKEN_RUN
   pub none : NoStops last
->>>>>>> 592f07e9c5979a139b9242e860e0583715584700
 
 -- no token is
 abbrev pub KeepsCount : List Token → Type 0

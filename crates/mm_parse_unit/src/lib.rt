@@ -25,26 +25,8 @@ use mm_token::token::{Token, Tokens};
 use sqlite_items::Items;
 use std::alloc::{AllocError, Global};
 
-<<<<<<< HEAD
-/// As many as there are bytes in the longest unit, which is no limit.
-const UNLIMITED: usize = MAX_UNIT_BYTES as usize;
-=======
-const NO_TEXT: Code = Code {
-    letter: 89,
-    number: 1,
-};
-
-const PAST_LIMIT: Code = Code {
-    letter: 89,
-    number: 2,
-};
-
-/// How many statements may stand one inside the other.
-const NESTING: usize = 200;
-
 /// As many as there are bytes in the longest unit; no unit has more one inside the other.
-const UNLIMITED: usize = 1_048_576;
->>>>>>> 592f07e9c5979a139b9242e860e0583715584700
+const UNLIMITED: usize = MAX_UNIT_BYTES as usize;
 
 /// The tree of a unit, or its first syntax fault.
 pub fn unit(alloc: Global, tokens: &Tokens) -> Result<Unit, ParseEnd>
