@@ -8,7 +8,7 @@ use mm_base::text::Text;
 use sqlite_items::Items;
 
 /// What sort of token a piece of text is.
-#[derive(Clone, Copy, Debug, PartialEq, Eq)]
+#[derive(Clone, Copy)]
 pub enum Kind {
     /// An identifier that names no class.
     Word,
