@@ -1,5 +1,5 @@
 -- How readers of parts make up readers of longer parts, at the grammar of units.
-use Rattle.std.proofs.Common.{◌≡◌, ℕ, ◌<◌, ◌≤◌, ◌&&◌, Bool, true, false, IsTrue, List, ◌∷◌, ◌++◌, inl, inr, map, length, ap, sym, ◌∙◌, subst, arith, Option, Some, None, Result, Ok, Err, not, IfOk, IfErr}
+use Rattle.std.proofs.Common.{◌≡◌, ℕ, ◌<◌, ◌≤◌, ◌&&◌, Bool, true, false, IsTrue, List, ◌∷◌, ◌++◌, inl, inr, map, length, refl, ap, sym, ◌∙◌, subst, arith, Option, Some, None, Result, Ok, Err, not, IfOk, IfErr, option_copied}
 use Rattle.std.specs.Borrow.{Bor}
 use Rattle.std.specs.Result.{IsErrAnd}
 use Rattle.std.specs.Option.{is_some}
@@ -14,6 +14,7 @@ use Rattle.mm_grammar.proofs.Here.{opt_read}
 use Rattle.mm_token.specs.declared.token.Token.{Token}
 use Rattle.mm_syntax.specs.declared.symbol.Symbol.{Symbol}
 use Rattle.mm_syntax.specs.Symbols.{symbol_of, number_of}
+use Rattle.mm_syntax.specs.Built.{is_given}
 use Rattle.mm_syntax.specs.Rules.{P, Value, Rule, units, token, rule_of}
 use Rattle.mm_syntax.proofs.Claims.{ahead}
 use Rattle.mm_syntax.proofs.Fitting.{fit}
@@ -100,6 +101,10 @@ avoid_both symbols others ts us r h i x s e j = elim (has-split (number_of (symb
 pub taken_shorter : (symbols : List Symbol) (ts us r : List Token) (t : Token) → Took symbols ts t us → length r ≤ length us → length r < length ts
 taken_shorter symbols ts us r t h n = let l : length ts ≡ length (t ∷ us) = ap length h.0 in omega arith
 
+pub eats_shorter : (symbols : List Symbol) (ts r : List Token) (o : Option (Bor Token)) → Eats symbols ts o r → length r ≤ length ts
+eats_shorter symbols ts r (Some x) h = let l = ap length h.0 in omega (arith, l)
+eats_shorter symbols ts r None h = let l = ap length h.0 in omega (arith, l)
+
 -- ---- parts
 
 pub pair : {A B : Type 0} → (p : P A) (q : P B) → IsTrue (is_plain (seq p q)) → (ts r1 r2 : List Token) (v : A) (w : B) → Reads units p ts v r1 → Reads units q r1 w r2 → Reads units (seq p q) ts (v, w) r2
@@ -122,6 +127,32 @@ named x ts r v a = name_ok units ahead fit x ts r v a
 
 pub named_not : (x : Rule) (ts r : List Token) → Fails units (rule_of x) ts r → Fails units (name x) ts r
 named_not x ts r a = name_fail units ahead fit x ts r a
+
+-- ---- from a part with another value back to the part
+
+pub ungive : {A B : Type 0} → (f : A → B) (p : P A) (ts r : List Token) (v : B) → Reads units (give f p) ts v r → (w : A) × (v ≡ f w) × Reads units p ts w r
+ungive f p ts r v a = let s = a.spelled in (s.0, s.1, record { used = a.used; cut = a.cut; spelled = s.2; stuck = a.stuck })
+
+pub ungive_not : {A B : Type 0} → (f : A → B) (p : P A) (ts r : List Token) → Fails units (give f p) ts r → Fails units p ts r
+ungive_not f p ts r a = record { used = a.used; cut = a.cut; front = a.front; not_spelled = λ v s. a.not_spelled (f v) (v, refl, s); stuck = a.stuck }
+
+-- two alternatives, the other way round
+pub swap_reads : {A : Type 0} → (p q : P A) (ts r : List Token) (v : A) → Reads units (alt q p) ts v r → Reads units (alt p q) ts v r
+swap_reads p q ts r v a = record {
+  used = a.used;
+  cut = a.cut;
+  spelled = elim a.spelled [ inl i ↦ inr i | inr i ↦ inl i ];
+  stuck = λ x s tail e f. a.stuck x s tail e (elim f [ inl i ↦ inr i | inr i ↦ inl i ]);
+}
+
+pub swap_fails : {A : Type 0} → (p q : P A) (ts r : List Token) → Fails units (alt q p) ts r → Fails units (alt p q) ts r
+swap_fails p q ts r a = record {
+  used = a.used;
+  cut = a.cut;
+  front = elim a.front [ inl i ↦ inr i | inr i ↦ inl i ];
+  not_spelled = λ v s. a.not_spelled v (elim s [ inl i ↦ inr i | inr i ↦ inl i ]);
+  stuck = λ x s tail e f. a.stuck x s tail e (elim f [ inl i ↦ inr i | inr i ↦ inl i ]);
+}
 
 -- ---- p, whose value doesn't count, and q; or the other way round
 
@@ -167,3 +198,60 @@ second_reads p q symbols g f ts us r v h a = alt_second_ok units ahead fit p q (
 
 pub second_one_fails : {A : Type 0} → (p q : P A) (symbols : List Symbol) → IsTrue (is_plain (alt p q)) → IsTrue (not (empty_of units ahead p)) → first_of units ahead p ≡ map number_of symbols → (ts us r : List Token) → Eats symbols ts None us → Fails units q us r → Fails units (alt p q) ts r
 second_one_fails p q symbols g n f ts us r h a = alt_second_fail units ahead fit p q (good (alt p q) g) ts r (λ k s i j. h.1 k s i (subst (λ cs. IsTrue (has (number_of (symbol_of k)) cs)) f j)) n (subst (λ w. Fails units q w r) h.0 a)
+
+-- ---- two parts
+
+pub two_first : {A B C : Type 0} → (f : A × B → C) (p : P A) (q : P B) → IsTrue (is_plain (seq p q)) → (ts r : List Token) → Fails units p ts r → Fails units (give f (seq p q)) ts r
+two_first f p q g ts r a = gives_not f (seq p q) ts r (first_fails p q g ts r a)
+
+pub two_second : {A B C : Type 0} → (f : A × B → C) (p : P A) (q : P B) → IsTrue (is_plain (seq p q)) → (ts r1 r : List Token) (v : A) → Reads units p ts v r1 → Fails units q r1 r → Fails units (give f (seq p q)) ts r
+two_second f p q g ts r1 r v a b = gives_not f (seq p q) ts r (second_fails p q g ts r1 r v a b)
+
+pub two : {A B C : Type 0} → (f : A × B → C) (p : P A) (q : P B) → IsTrue (is_plain (seq p q)) → (ts r1 r : List Token) (v : A) (w : B) (x : C) → Reads units p ts v r1 → Reads units q r1 w r → x ≡ f (v, w) → Reads units (give f (seq p q)) ts x r
+two f p q g ts r1 r v w x a b e = ok_is (give f (seq p q)) ts r x (f (v, w)) e (gives f (seq p q) ts r (v, w) (pair p q g ts r1 r v w a b))
+
+-- ---- three parts
+
+pub three_second : {A B C D : Type 0} → (f : A × (B × C) → D) (p : P A) (q : P B) (s : P C) → IsTrue (is_plain (seq p (seq q s))) → IsTrue (is_plain (seq q s)) → (ts r1 r : List Token) (v : A) → Reads units p ts v r1 → Fails units q r1 r → Fails units (give f (seq p (seq q s))) ts r
+three_second f p q s g h ts r1 r v a b = two_second f p (seq q s) g ts r1 r v a (first_fails q s h r1 r b)
+
+pub three_third : {A B C D : Type 0} → (f : A × (B × C) → D) (p : P A) (q : P B) (s : P C) → IsTrue (is_plain (seq p (seq q s))) → IsTrue (is_plain (seq q s)) → (ts r1 r2 r : List Token) (v : A) (w : B) → Reads units p ts v r1 → Reads units q r1 w r2 → Fails units s r2 r → Fails units (give f (seq p (seq q s))) ts r
+three_third f p q s g h ts r1 r2 r v w a b c = two_second f p (seq q s) g ts r1 r v a (second_fails q s h r1 r2 r w b c)
+
+pub three : {A B C D : Type 0} → (f : A × (B × C) → D) (p : P A) (q : P B) (s : P C) → IsTrue (is_plain (seq p (seq q s))) → IsTrue (is_plain (seq q s)) → (ts r1 r2 r : List Token) (v : A) (w : B) (y : C) (x : D) → Reads units p ts v r1 → Reads units q r1 w r2 → Reads units s r2 y r → x ≡ f (v, (w, y)) → Reads units (give f (seq p (seq q s))) ts x r
+three f p q s g h ts r1 r2 r v w y x a b c e = two f p (seq q s) g ts r1 r v (w, y) x a (pair q s h r1 r2 r w y b c) e
+
+-- ---- a token that was taken, and a part whose value it stands in
+
+pub led : {A B : Type 0} → (symbols : List Symbol) (f : Token × A → B) (q : P A) → IsTrue (is_plain (seq (token symbols) q)) → (ts us r : List Token) (x : Token) (v : B) → Took symbols ts x us → Reads units (give (λ w. f (x, w)) q) us v r → Reads units (give f (seq (token symbols) q)) ts v r
+led symbols f q g ts us r x v h a =
+    let w = ungive (λ w. f (x, w)) q us r v a in
+    two f (token symbols) q g ts us r x w.0 v (ate symbols ts us x h) w.2 w.1
+
+pub led_fails : {A B : Type 0} → (symbols : List Symbol) (f : Token × A → B) (q : P A) → IsTrue (is_plain (seq (token symbols) q)) → (ts us r : List Token) (x : Token) → Took symbols ts x us → Fails units (give (λ w. f (x, w)) q) us r → Fails units (give f (seq (token symbols) q)) ts r
+led_fails symbols f q g ts us r x h a = two_second f (token symbols) q g ts us r x (ate symbols ts us x h) (ungive_not (λ w. f (x, w)) q us r a)
+
+-- ---- a token that may be left out
+
+pub token_some : {B : Type 0} → (symbols : List Symbol) (f : Option Token → B) → IsTrue (is_plain (opt (token symbols))) → (ts r : List Token) (x : Token) (v : B) → Took symbols ts x r → v ≡ f (Some x) → Reads units (give f (opt (token symbols))) ts v r
+token_some symbols f g ts r x v h e =
+    ok_is (give f (opt (token symbols))) ts r v (f (Some x)) e (gives f (opt (token symbols)) ts r (Some x) (some (token symbols) g refl ts r x (ate symbols ts r x h)))
+
+pub token_none : {B : Type 0} → (symbols : List Symbol) (f : Option Token → B) → IsTrue (is_plain (opt (token symbols))) → (ts r : List Token) (v : B) → Eats symbols ts None r → v ≡ f None → Reads units (give f (opt (token symbols))) ts v r
+token_none symbols f g ts r v h e =
+    ok_is (give f (opt (token symbols))) ts r v (f None) e (gives f (opt (token symbols)) ts r None (none (token symbols) symbols g refl ts r h))
+
+-- whether it stood there
+pub token_given : (symbols : List Symbol) → IsTrue (is_plain (opt (token symbols))) → (ts r : List Token) (o : Option (Bor Token)) (v : Bool) → v ≡ is_some o → Eats symbols ts o r → Reads units (give is_given (opt (token symbols))) ts v r
+token_given symbols g ts r (Some x) v e h = token_some symbols is_given g ts r x.now v h e
+token_given symbols g ts r None v e h = token_none symbols is_given g ts r v h e
+
+-- the token itself, where it stood there
+pub token_taken : (symbols : List Symbol) → IsTrue (is_plain (opt (token symbols))) → (ts r : List Token) (o : Option (Bor Token)) → Eats symbols ts o r → Reads units (opt (token symbols)) ts (option_copied o) r
+token_taken symbols g ts r (Some x) h = some (token symbols) g refl ts r x.now (ate symbols ts r x.now h)
+token_taken symbols g ts r None h = none (token symbols) symbols g refl ts r h
+
+-- no value of it counts
+pub token_eaten : {B : Type 0} → (symbols : List Symbol) (v : B) → IsTrue (is_plain (opt (token symbols))) → (ts r : List Token) (o : Option (Bor Token)) → Eats symbols ts o r → Reads units (give (λ w. v) (opt (token symbols))) ts v r
+token_eaten symbols v g ts r (Some x) h = token_some symbols (λ w. v) g ts r x.now v h refl
+token_eaten symbols v g ts r None h = token_none symbols (λ w. v) g ts r v h refl

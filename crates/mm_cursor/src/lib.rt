@@ -7,13 +7,15 @@ ghost use Rattle.mm_syntax.specs.Symbols.{number_of};
 ghost use Rattle.mm_cursor.specs.Cursor.{next_of, Eats, Takes};
 ghost use Rattle.mm_cursor.specs.declared.Stop.TheVariants.{NoMemory};
 
+pub mod list;
+
 use mm_syntax::symbol::{Symbol, classify, number};
 use mm_token::token::Token;
 use std::alloc::AllocError;
 use std::marker::Model;
 
 /// Why a reader stops: at the first token that it leaves, or for want of memory.
-#[derive(Clone, Copy, Debug, PartialEq, Eq)]
+#[derive(Clone, Copy)]
 pub enum Stop {
     Fault,
     NoMemory,

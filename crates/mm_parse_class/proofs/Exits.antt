@@ -39,8 +39,7 @@ use Rattle.mm_syntax.specs.Rules.{P, units, token, item, type_name, mark, parame
 use Rattle.mm_syntax.proofs.Claims.{ahead}
 use Rattle.mm_syntax.proofs.Fitting.{fit}
 use Rattle.mm_cursor.specs.Cursor.{Eats}
-use Rattle.mm_cursor.proofs.Steps.{Took, is_plain, good, ok_is, ate, other, avoid_both, taken_shorter, pair, first_fails, second_fails, gives, gives_not, named, named_not, after, after_fails, before, before_fails, before_then_fails, some, none, some_fails, first_reads, first_one_fails, second_reads, second_one_fails}
-use Rattle.mm_parse_expr.proofs.Turns.{ungive, ungive_not, swap_reads, swap_fails}
+use Rattle.mm_cursor.proofs.Steps.{Took, is_plain, good, ok_is, ate, other, avoid_both, taken_shorter, pair, first_fails, second_fails, gives, gives_not, named, named_not, after, after_fails, before, before_fails, before_then_fails, some, none, some_fails, first_reads, first_one_fails, second_reads, second_one_fails, ungive, ungive_not, swap_reads, swap_fails}
 use Rattle.mm_parse_class.specs.Parts.{class_keys, class_declaration, semicolon_if, base_of, virtual_base, access_base, base_list, method_rest, after_destructor, destructor_from, destructor_of, function_end, field, fields, access_item, virtual_item, destructor_item, class_item, typed_item, members}
 use Rattle.mm_parse_class.proofs.Turns.{two_first, two_second, two, three_second, three_third, three, led, led_fails, next_reads, next_fails, else_reads, else_fails, takes_some, fails_or_none}
 

@@ -17,8 +17,7 @@ use Rattle.mm_syntax.specs.Rules.{P, units, token}
 use Rattle.mm_syntax.proofs.Claims.{ahead}
 use Rattle.mm_syntax.proofs.Fitting.{fit}
 use Rattle.mm_cursor.specs.Cursor.{Eats}
-use Rattle.mm_cursor.proofs.Steps.{Took, is_plain, good, ok_is, ate, pair, first_fails, second_fails, gives, gives_not, some, none}
-use Rattle.mm_parse_expr.proofs.Turns.{ungive, ungive_not}
+use Rattle.mm_cursor.proofs.Steps.{Took, is_plain, good, ok_is, ate, pair, first_fails, second_fails, gives, gives_not, some, none, ungive, ungive_not}
 use Rattle.mm_parse_class.specs.Parts.{Foresees}
 
 -- ---- two parts

@@ -1,10 +1,9 @@
 -- The exits of each reader of expressions, over plain lists of tokens.
-use Rattle.std.proofs.Common.{◌≡◌, ◌≤◌, List, [], ◌∷◌, ◌++◌, inl, inr, map, length, refl, ap, sym, ◌∙◌, subst, Option, Some, None, append_assoc}
-use Rattle.std.proofs.lemmas.List.{append-nil}
+use Rattle.std.proofs.Common.{◌≡◌, ◌≤◌, List, [], ◌∷◌, ◌++◌, inl, inr, map, length, refl, ap, sym, ◌∙◌, subst, Option, Some, None}
 use Rattle.mm_grammar.specs.Grammar.{name, seq, many, give, opt, Reads, Fails}
 use Rattle.mm_grammar.specs.Ahead.{first_of}
 use Rattle.mm_grammar.proofs.Lists.{has-split}
-use Rattle.mm_grammar.proofs.Loops.{SoFar, begun, not_begun, once_more, ended_here, failed_inside, opt_none}
+use Rattle.mm_grammar.proofs.Loops.{SoFar, begun, not_begun, once_more, failed_inside, opt_none}
 use Rattle.mm_grammar.proofs.Here.{opt_some_of, opt_fail_of, opt_fail_shorter, many_none_of, opt_then_fail}
 use Rattle.mm_token.specs.declared.token.Token.{Token}
 use Rattle.mm_syntax.specs.declared.symbol.Symbol.{Symbol}
@@ -21,9 +20,9 @@ use Rattle.mm_syntax.specs.Rules.{P, units, token, rule_of, expr, or, unary, pos
 use Rattle.mm_syntax.proofs.Claims.{ahead}
 use Rattle.mm_syntax.proofs.Fitting.{fit}
 use Rattle.mm_cursor.specs.Cursor.{Eats}
-use Rattle.mm_cursor.proofs.Steps.{Took, good, ok_is, ate, other, avoid_both, taken_shorter, pair, first_fails, second_fails, gives, gives_not, named, named_not, after, after_fails, before, before_fails, before_then_fails, some, none, some_fails, first_reads, first_one_fails, second_reads, second_one_fails}
+use Rattle.mm_cursor.proofs.Steps.{Took, good, ok_is, ate, other, avoid_both, pair, first_fails, second_fails, gives, gives_not, named, named_not, after, after_fails, before, before_fails, before_then_fails, some, none, some_fails, first_reads, first_one_fails, second_reads, second_one_fails, ungive, ungive_not, swap_reads, swap_fails}
+use Rattle.mm_cursor.proofs.Lists.{Listed, list_step, list_end, list_fails, next_reads, next_fails}
 use Rattle.mm_parse_expr.specs.Parts.{target, member, closing, cast_of}
-use Rattle.mm_parse_expr.proofs.Turns.{ungive, ungive_not, swap_reads, swap_fails}
 
 abbrev t : Symbol → P Token
 t symbol = token (symbol ∷ [])
@@ -295,7 +294,7 @@ inside_fails ts us r h a =
 -- ---- args
 
 abbrev pub ArgsSoFar : List Expr → List Token → List Token → Type 0
-ArgsSoFar list ts rest = SoFar units (rule_of args) another (λ xs. list ++ xs) ts rest
+ArgsSoFar list ts rest = Listed (rule_of args) another list ts rest
 
 pub args_start : (ts r : List Token) (v : Begun) (list : List Expr) → Reads units (name expr) ts v r → list ≡ v.tree ∷ [] → ArgsSoFar list ts r
 args_start ts r v list a e = subst (λ l. ArgsSoFar l ts r) (sym e) (begun units ahead fit (λ v. v.0.tree ∷ v.1) (name expr) another (good (seq (name expr) (many another)) refl) ts r v a)
@@ -303,25 +302,15 @@ args_start ts r v list a e = subst (λ l. ArgsSoFar l ts r) (sym e) (begun units
 pub args_not : (ts r : List Token) → Fails units (name expr) ts r → Fails units (name args) ts r
 args_not ts r a = named_not args ts r (not_begun units ahead fit (λ v. v.0.tree ∷ v.1) (name expr) another (good (seq (name expr) (many another)) refl) ts r a)
 
-another_reads : (ts us r : List Token) (x : Token) (v : Begun) → Took (k.Comma ∷ []) ts x us → Reads units (name expr) us v r → Reads units another ts v.tree r
-another_reads ts us r x v h a = gives (λ v. v.tree) _ ts r v (after (t k.Comma) (name expr) refl ts us r x v (ate (k.Comma ∷ []) ts us x h) a)
-
 pub args_step : (ts rest us r : List Token) (list next : List Expr) (v : Begun) (x : Token) → ArgsSoFar list ts rest → Took (k.Comma ∷ []) rest x us → Reads units (name expr) us v r → next ≡ list ++ v.tree ∷ [] → ArgsSoFar next ts r
-args_step ts rest us r list next v x s h a n =
-    once_more units ahead fit (rule_of args) another (λ xs. list ++ xs) (λ xs. next ++ xs) (good (many another) refl) ts rest r v.tree s
-    (another_reads rest us r x v h a) (λ xs. sym (ap (λ l. l ++ xs) n ∙ append_assoc list (v.tree ∷ []) xs))
+args_step ts rest us r list next v x s h a n = list_step (rule_of args) another refl ts rest r list next v.tree s (gives (λ v. v.tree) _ rest r v (next_reads (name expr) refl rest us r x v h a)) n
 
 pub args_end : (ts rest us : List Token) (list : List Expr) → ArgsSoFar list ts rest → Eats (k.Comma ∷ []) rest None us → Reads units (name args) ts list us
-args_end ts rest us list s h =
-    named args ts us list
-    (subst (λ w. Reads units (rule_of args) ts list w) (sym h.0)
-    (subst (λ l. Reads units (rule_of args) ts l rest) (append-nil list) (ended_here units ahead fit (rule_of args) another (λ xs. list ++ xs) (good (many another) refl) ts rest s h.1)))
+args_end ts rest us list s h = named args ts us list (subst (λ w. Reads units (rule_of args) ts list w) (sym h.0) (list_end (rule_of args) another refl ts rest list s h.1))
 
 pub args_fail : (ts rest us r : List Token) (list : List Expr) (x : Token) → ArgsSoFar list ts rest → Took (k.Comma ∷ []) rest x us → length r ≤ length us → Fails units (name expr) us r → Fails units (name args) ts r
 args_fail ts rest us r list x s h n a =
-    named_not args ts r
-    (failed_inside units ahead fit (rule_of args) another (λ xs. list ++ xs) (good (many another) refl) ts rest r (taken_shorter (k.Comma ∷ []) rest us r x h n) s
-    (gives_not (λ v. v.tree) _ rest r (after_fails (t k.Comma) (name expr) refl rest us r x (ate (k.Comma ∷ []) rest us x h) a)))
+    named_not args ts r (list_fails (rule_of args) another refl ts rest us r list x s h n (gives_not (λ v. v.tree) _ rest r (next_fails (name expr) refl rest us r x h a)))
 
 -- ---- expr )
 

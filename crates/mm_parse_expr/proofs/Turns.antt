@@ -1,6 +1,6 @@
 -- The turns of each reader of expressions, over plain lists of tokens.
-use Rattle.std.proofs.Common.{◌≡◌, ℕ, zero, suc, ◌+◌, ◌-◌, ◌<◌, ◌≤◌, IsTrue, List, inl, inr, map, length, refl, ap, sym, subst, arith, None}
-use Rattle.mm_grammar.specs.Grammar.{seq, alt, many, give, Reads, Fails, has}
+use Rattle.std.proofs.Common.{◌≡◌, ℕ, zero, suc, ◌+◌, ◌-◌, ◌<◌, ◌≤◌, IsTrue, List, map, length, refl, ap, sym, subst, arith, None}
+use Rattle.mm_grammar.specs.Grammar.{seq, many, give, Reads, Fails, has}
 use Rattle.mm_grammar.specs.Ahead.{first_of}
 use Rattle.mm_grammar.proofs.Loops.{SoFar, once_more, ended_here, failed_inside}
 use Rattle.mm_token.specs.declared.token.Token.{Token}
@@ -12,34 +12,8 @@ use Rattle.mm_syntax.specs.Rules.{P, units, token, or, and, eq, rel, add, mul, c
 use Rattle.mm_syntax.proofs.Claims.{ahead}
 use Rattle.mm_syntax.proofs.Fitting.{fit}
 use Rattle.mm_cursor.specs.Cursor.{Eats}
-use Rattle.mm_cursor.proofs.Steps.{Took, is_plain, good, ok_is, ate, taken_shorter, pair, first_fails, second_fails, gives, gives_not, named, named_not}
+use Rattle.mm_cursor.proofs.Steps.{Took, is_plain, good, ok_is, ate, taken_shorter, pair, first_fails, second_fails, gives, gives_not, named, named_not, ungive, ungive_not}
 use Rattle.mm_parse_expr.specs.Parts.{part_at, operators_at}
-
--- ---- from a part with another value back to the part
-
-pub ungive : {A B : Type 0} → (f : A → B) (p : P A) (ts r : List Token) (v : B) → Reads units (give f p) ts v r → (w : A) × (v ≡ f w) × Reads units p ts w r
-ungive f p ts r v a = let s = a.spelled in (s.0, s.1, record { used = a.used; cut = a.cut; spelled = s.2; stuck = a.stuck })
-
-pub ungive_not : {A B : Type 0} → (f : A → B) (p : P A) (ts r : List Token) → Fails units (give f p) ts r → Fails units p ts r
-ungive_not f p ts r a = record { used = a.used; cut = a.cut; front = a.front; not_spelled = λ v s. a.not_spelled (f v) (v, refl, s); stuck = a.stuck }
-
--- two alternatives, the other way round
-pub swap_reads : {A : Type 0} → (p q : P A) (ts r : List Token) (v : A) → Reads units (alt q p) ts v r → Reads units (alt p q) ts v r
-swap_reads p q ts r v a = record {
-  used = a.used;
-  cut = a.cut;
-  spelled = elim a.spelled [ inl i ↦ inr i | inr i ↦ inl i ];
-  stuck = λ x s tail e f. a.stuck x s tail e (elim f [ inl i ↦ inr i | inr i ↦ inl i ]);
-}
-
-pub swap_fails : {A : Type 0} → (p q : P A) (ts r : List Token) → Fails units (alt q p) ts r → Fails units (alt p q) ts r
-swap_fails p q ts r a = record {
-  used = a.used;
-  cut = a.cut;
-  front = elim a.front [ inl i ↦ inr i | inr i ↦ inl i ];
-  not_spelled = λ v s. a.not_spelled v (elim s [ inl i ↦ inr i | inr i ↦ inl i ]);
-  stuck = λ x s tail e f. a.stuck x s tail e (elim f [ inl i ↦ inr i | inr i ↦ inl i ]);
-}
 
 -- ---- one operator and its right operand after another
 

@@ -18,7 +18,7 @@ use mm_token::token::{Token, Tokens};
 use std::alloc::Global;
 
 /// Why there is no expression: a fault at a place, or want of memory.
-#[derive(Clone, Copy, Debug, PartialEq, Eq)]
+#[derive(Clone, Copy)]
 pub enum ParseEnd {
     Fault(Code, Place),
     NoMemory,

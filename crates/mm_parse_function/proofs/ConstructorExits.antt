@@ -15,8 +15,7 @@ use Rattle.mm_syntax.specs.Rules.{P, units, token, inits, init, block, call, ins
 use Rattle.mm_syntax.proofs.Claims.{ahead}
 use Rattle.mm_syntax.proofs.Fitting.{fit}
 use Rattle.mm_cursor.specs.Cursor.{Eats}
-use Rattle.mm_cursor.proofs.Steps.{Took, good, ok_is, ate, taken_shorter, pair, first_fails, second_fails, gives, gives_not, named, named_not, after, after_fails, some, some_fails, none}
-use Rattle.mm_parse_expr.proofs.Turns.{ungive, ungive_not}
+use Rattle.mm_cursor.proofs.Steps.{Took, good, ok_is, ate, taken_shorter, pair, first_fails, second_fails, gives, gives_not, named, named_not, after, after_fails, some, some_fails, none, ungive, ungive_not}
 use Rattle.mm_parse_function.specs.Parts.{next_init, init_list}
 
 abbrev t : Symbol → P Token

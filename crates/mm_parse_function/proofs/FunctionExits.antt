@@ -17,8 +17,7 @@ use Rattle.mm_syntax.specs.Built as b
 use Rattle.mm_syntax.specs.BuiltDeclarations as bd
 use Rattle.mm_syntax.specs.Rules.{P, units, token, block, mark, scope, parameters, function_body, function_end, after_type, constructor_body, constructor_end, after_class_name}
 use Rattle.mm_cursor.specs.Cursor.{Eats}
-use Rattle.mm_cursor.proofs.Steps.{Took, ok_is, ate, pair, first_fails, second_fails, gives, gives_not, after, after_fails, before, before_fails, before_then_fails, first_reads, first_one_fails, second_reads, second_one_fails}
-use Rattle.mm_parse_expr.proofs.Turns.{ungive, ungive_not, swap_reads, swap_fails}
+use Rattle.mm_cursor.proofs.Steps.{Took, ok_is, ate, pair, first_fails, second_fails, gives, gives_not, after, after_fails, before, before_fails, before_then_fails, first_reads, first_one_fails, second_reads, second_one_fails, ungive, ungive_not, swap_reads, swap_fails}
 use Rattle.mm_parse_function.specs.Parts.{plain_end, member_end, constructor_tail}
 
 abbrev t : Symbol → P Token

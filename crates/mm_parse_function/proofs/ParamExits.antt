@@ -20,8 +20,7 @@ use Rattle.mm_syntax.specs.Rules.{P, units, token, params, param, type_name, mar
 use Rattle.mm_syntax.proofs.Claims.{ahead}
 use Rattle.mm_syntax.proofs.Fitting.{fit}
 use Rattle.mm_cursor.specs.Cursor.{Eats}
-use Rattle.mm_cursor.proofs.Steps.{Took, good, ok_is, ate, other, avoid_both, taken_shorter, pair, first_fails, second_fails, gives, gives_not, named, named_not, after, after_fails, before, before_then_fails, some, first_reads, first_one_fails, second_reads, second_one_fails}
-use Rattle.mm_parse_expr.proofs.Turns.{ungive, ungive_not}
+use Rattle.mm_cursor.proofs.Steps.{Took, good, ok_is, ate, other, avoid_both, taken_shorter, pair, first_fails, second_fails, gives, gives_not, named, named_not, after, after_fails, before, before_then_fails, some, first_reads, first_one_fails, second_reads, second_one_fails, ungive, ungive_not}
 use Rattle.mm_parse_function.specs.Parts.{inside_parameters, void_first, next_param, behind}
 use Rattle.mm_parse_function.proofs.Optional.{word_eaten, none_fails, none_seq, reads_takes, fails_behind}
 

@@ -1,13 +1,13 @@
 -- The exits of each reader of statements, over plain lists of tokens.
-use Rattle.std.proofs.Common.{◌≡◌, ℕ, zero, suc, ◌<◌, ◌≤◌, ◌+◌, false, IsTrue, List, [], ◌∷◌, ◌++◌, inl, inr, map, length, refl, ap, sym, ◌∙◌, subst, arith, Option, Some, None, append_assoc}
-use Rattle.std.proofs.lemmas.List.{append-nil, length-append}
-use Rattle.mm_grammar.specs.Grammar.{name, seq, alt, many, opt, Front, Spells, RuleSpells, RuleFront, Reads, Fails}
+use Rattle.std.proofs.Common.{◌≡◌, ℕ, zero, suc, ◌<◌, ◌≤◌, ◌+◌, false, IsTrue, List, [], ◌∷◌, ◌++◌, inl, inr, map, length, refl, ap, sym, ◌∙◌, subst, arith, Option, Some, None}
+use Rattle.std.proofs.lemmas.List.{length-append}
+use Rattle.mm_grammar.specs.Grammar.{name, seq, alt, many, opt, Spells, RuleSpells, RuleFront, Reads, Fails}
 use Rattle.mm_grammar.specs.Ahead.{Good, first_of, disjoint}
 use Rattle.mm_grammar.proofs.Laws.{spell_empty}
 use Rattle.mm_grammar.proofs.Closed.{lawful}
-use Rattle.mm_grammar.proofs.Reading.{one_fail, seq_ok, seq_fail_first, seq_fail_second}
-use Rattle.mm_grammar.proofs.Loops.{SoFar, once_more, ended_here, failed_inside, opt_none}
-use Rattle.mm_grammar.proofs.Here.{fail_here, many_none_of, opt_then_fail}
+use Rattle.mm_grammar.proofs.Reading.{seq_ok, seq_fail_first, seq_fail_second}
+use Rattle.mm_grammar.proofs.Loops.{opt_none}
+use Rattle.mm_grammar.proofs.Here.{fail_here, opt_then_fail}
 use Rattle.mm_grammar.proofs.Tails.{tailed_none, tailed_fail_first, tailed_some, tailed_fail_tail}
 use Rattle.mm_token.specs.declared.token.Token.{Token}
 use Rattle.mm_syntax.specs.declared.symbol.Symbol.{Symbol}
@@ -24,6 +24,8 @@ use Rattle.mm_syntax.proofs.Fitting.{fit}
 use Rattle.mm_cursor.specs.Cursor.{Eats}
 use Rattle.mm_cursor.proofs.Steps.{Took, is_plain, good, ok_is, ate, other, taken_shorter, pair, first_fails, second_fails, gives, gives_not, named, named_not, after, after_fails, before, before_fails, before_then_fails, some, first_reads, first_one_fails, second_reads, second_one_fails}
 use Rattle.mm_parse_expr.specs.Parts.{closing}
+use Rattle.mm_cursor.proofs.Lists.{Listed, list_step, list_end}
+use Rattle.mm_cursor.proofs.Closing.{closed_fails}
 use Rattle.mm_parse_stmt.specs.declared.build.ForHead.{ForHead}
 use Rattle.mm_parse_stmt.specs.Parts.{Closes, block_end, if_end, while_end, until, do_end, for_open, for_end, plain, head_of, repeated}
 use Rattle.mm_parse_stmt.proofs.Else.{closed_before}
@@ -57,49 +59,21 @@ block_fails n ts us r x h a = named_not (block n) ts r (word_fails (k.OpenBrace 
 -- ---- what follows its brace
 
 abbrev pub StmtsSoFar : ℕ → List Stmt → List Token → List Token → Type 0
-StmtsSoFar n list ts rest = SoFar units (many (st n)) (st n) (λ xs. list ++ xs) ts rest
-
-pub stmts_start : (n : ℕ) (ts : List Token) (list : List Stmt) → list ≡ [] → StmtsSoFar n list ts ts
-stmts_start n ts list e = subst (λ l. StmtsSoFar n l ts ts) (sym e) (record { reads = λ xs r a. a; fails = λ r a. a })
+StmtsSoFar n list ts rest = Listed (many (st n)) (st n) list ts rest
 
 pub stmts_step : (n : ℕ) (ts rest us r : List Token) (list next : List Stmt) (v : Stmt) → StmtsSoFar n list ts rest → Eats (k.CloseBrace ∷ []) rest None us → Reads units (st n) us v r → next ≡ list ++ v ∷ [] → StmtsSoFar n next ts r
-stmts_step n ts rest us r list next v so h a e =
-    once_more units ahead fit (many (st n)) (st n) (λ xs. list ++ xs) (λ xs. next ++ xs) (good (many (st n)) refl) ts rest r v so
-    (subst (λ w. Reads units (st n) w v r) h.0 a) (λ xs. sym (ap (λ l. l ++ xs) e ∙ append_assoc list (v ∷ []) xs))
+stmts_step n ts rest us r list next v so h a e = list_step (many (st n)) (st n) refl ts rest r list next v so (subst (λ w. Reads units (st n) w v r) h.0 a) e
 
 pub stmts_end : (brace : Token) (n : ℕ) (ts rest r : List Token) (list : List Stmt) (x : Token) (v : Stmt) → StmtsSoFar n list ts rest → Took (k.CloseBrace ∷ []) rest x r → v ≡ bs.block brace list → Reads units (block_end brace n) ts v r
 stmts_end brace n ts rest r list x v so h e =
     ok_is (block_end brace n) ts r v (bs.block brace list) e
     (gives (λ l. bs.block brace l) (many (st n) ◂ t k.CloseBrace) ts r list
     (before (many (st n)) (t k.CloseBrace) refl ts rest r list x
-    (subst (λ l. Reads units (many (st n)) ts l rest) (append-nil list)
-    (ended_here units ahead fit (many (st n)) (st n) (λ xs. list ++ xs) (good (many (st n)) refl) ts rest so (other (k.CloseBrace ∷ []) (first_of units ahead (st n)) refl rest r x h)))
+    (list_end (many (st n)) (st n) refl ts rest list so (other (k.CloseBrace ∷ []) (first_of units ahead (st n)) refl rest r x h))
     (ate (k.CloseBrace ∷ []) rest r x h)))
 
 pub stmts_fail : (brace : Token) (n : ℕ) (ts rest us r : List Token) (list : List Stmt) → StmtsSoFar n list ts rest → Eats (k.CloseBrace ∷ []) rest None us → Fails units (st n) us r → Fails units (block_end brace n) ts r
-stmts_fail brace n ts rest us r list so h f =
-    gives_not (λ l. bs.block brace l) (many (st n) ◂ t k.CloseBrace) ts r (go a.used a.cut refl)
-  where
-    a : Fails units (st n) rest r
-    a = subst (λ w. Fails units (st n) w r) h.0 f
-
-    go : (u : List Token) → rest ≡ u ++ r → a.used ≡ u → Fails units (many (st n) ◂ t k.CloseBrace) ts r
-    go [] cut same =
-        let none : Reads units (opt (st n)) rest None rest = record {
-          used = [];
-          cut = refl;
-          spelled = inr (tt, refl, refl);
-          stuck = λ x s tail e i. elim i [
-            | inl j ↦ a.stuck x s tail (sym cut ∙ e) (subst (λ w. Front units (st n) w) (ap (λ w. w ++ x ∷ tail) (sym same)) j)
-            | inr j ↦ absurd (cc)
-          ];
-        } in
-        let list_read = subst (λ l. Reads units (many (st n)) ts l rest) (append-nil list) (so.reads [] rest (many_none_of units ahead fit (st n) (good (many (st n)) refl) rest rest none)) in
-        subst (λ w. Fails units (many (st n) ◂ t k.CloseBrace) ts w) cut
-        (before_then_fails (many (st n)) (t k.CloseBrace) refl ts rest rest list list_read (one_fail units ahead fit (map number_of (k.CloseBrace ∷ [])) rest h.1))
-    go (x ∷ u) cut same =
-        let e : length rest ≡ length (x ∷ u) + length r = ap length cut ∙ length-append (x ∷ u) r in
-        before_fails (many (st n)) (t k.CloseBrace) refl ts r (failed_inside units ahead fit (many (st n)) (st n) (λ xs. list ++ xs) (good (many (st n)) refl) ts rest r (omega arith) so a)
+stmts_fail brace n ts rest us r list so h f = gives_not (λ l. bs.block brace l) (many (st n) ◂ t k.CloseBrace) ts r (closed_fails (st n) (k.CloseBrace ∷ []) refl refl ts rest us r list so h f)
 
 -- ---- ( expr )
 

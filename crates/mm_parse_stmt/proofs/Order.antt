@@ -13,8 +13,7 @@ use Rattle.mm_syntax.specs.Rules.{P, units, token, rule_of, stmt, block, if_stmt
 use Rattle.mm_syntax.proofs.Claims.{ahead}
 use Rattle.mm_syntax.proofs.Fitting.{fit}
 use Rattle.mm_cursor.specs.Cursor.{Eats}
-use Rattle.mm_cursor.proofs.Steps.{Took, ok_is, gives, gives_not, named, named_not, taken_shorter}
-use Rattle.mm_parse_expr.proofs.Turns.{ungive, ungive_not}
+use Rattle.mm_cursor.proofs.Steps.{Took, ok_is, gives, gives_not, named, named_not, taken_shorter, ungive, ungive_not}
 use Rattle.mm_parse_stmt.specs.Parts.{plain}
 
 -- ---- the same texts and fronts otherwise put together

@@ -1,6 +1,6 @@
 // Trees of statements, from their tokens and parts.
 
-ghost use Rattle.std.specs.Prelude.{◌≡◌, [], ◌∷◌, ◌++◌, IfOk, OnOk, Some, None};
+ghost use Rattle.std.specs.Prelude.{◌≡◌, IfOk, Some, None};
 ghost use Rattle.mm_syntax.specs.BuiltStatements as bs;
 ghost use Rattle.mm_parse_stmt.specs.Parts.{head_of, repeated};
 
@@ -31,14 +31,6 @@ pub fn at_token(alloc: Global, kind: StmtKind, token: &Token) -> Result<Boxed<St
     ensures { IfOk result (λ v. v ≡ bs.statement kind token.now.place) }
 {
     statement(alloc, kind, token.place)
-}
-
-/// Adds a statement to a list.
-pub fn push(list: &mut Items<Stmt>, item: Boxed<Stmt>) -> Result<(), AllocError>
-    ensures { OnOk result (list.new ≡ list.old ++ item ∷ []) }
-{
-    list.push(item.into_inner())?;
-    Ok(())
 }
 
 /// The tree of a block.

@@ -7,6 +7,7 @@ ghost use Rattle.mm_syntax.specs.Rules as rules;
 ghost use Rattle.mm_parse_stmt.specs.Parts.{Closes, block_end, do_end, for_end, for_open, if_end, plain, until, while_end};
 
 use crate::build;
+use mm_cursor::list::push;
 use mm_cursor::{Cursor, Stop};
 use mm_parse_expr::parser;
 use mm_parse_var::simple;
@@ -40,7 +41,7 @@ fn block_end(
     let mut stmts = Items::new(alloc);
     while cursor.eat(&[Symbol::CloseBrace]).is_none() {
         let next = stmt(alloc, cursor, nesting)?;
-        build::push(&mut stmts, next)?;
+        push(&mut stmts, next)?;
     }
     Ok(build::block(alloc, brace, stmts)?)
 }

@@ -1,9 +1,8 @@
 -- The exits of each reader of types, variables and simple statements, over plain lists of tokens.
-use Rattle.std.proofs.Common.{◌≡◌, ◌≤◌, List, [], ◌∷◌, ◌++◌, length, refl, ap, sym, ◌∙◌, subst, arith, Option, Some, None, append_assoc, option_copied}
-use Rattle.std.proofs.lemmas.List.{append-nil}
+use Rattle.std.proofs.Common.{◌≡◌, ◌≤◌, List, [], ◌∷◌, length, refl, ap, sym, ◌∙◌, subst, Option, Some, None, option_copied}
 use Rattle.std.specs.Borrow.{Bor}
 use Rattle.mm_grammar.specs.Grammar.{name, seq, alt, many, give, opt, Reads, Fails}
-use Rattle.mm_grammar.proofs.Loops.{SoFar, once_more, ended_here, failed_inside, opt_none}
+use Rattle.mm_grammar.proofs.Loops.{opt_none}
 use Rattle.mm_token.specs.declared.token.Token.{Token}
 use Rattle.mm_syntax.specs.declared.symbol.Symbol.{Symbol}
 use Rattle.mm_syntax.specs.declared.symbol.Symbol.TheVariants as k
@@ -20,16 +19,11 @@ use Rattle.mm_syntax.specs.Rules.{P, units, token, expr, args, type_name, declar
 use Rattle.mm_syntax.proofs.Claims.{ahead}
 use Rattle.mm_syntax.proofs.Fitting.{fit}
 use Rattle.mm_cursor.specs.Cursor.{Eats}
-use Rattle.mm_cursor.proofs.Steps.{Took, good, ok_is, ate, avoid_both, taken_shorter, pair, first_fails, second_fails, gives, gives_not, named, named_not, after, after_fails, before, before_fails, before_then_fails, some, none, some_fails, first_reads, first_one_fails, second_reads, second_one_fails}
-use Rattle.mm_parse_expr.proofs.Turns.{ungive, ungive_not, swap_reads, swap_fails}
+use Rattle.mm_cursor.proofs.Steps.{Took, good, ok_is, ate, avoid_both, pair, first_fails, second_fails, gives, gives_not, named, named_not, after, after_fails, before, before_fails, before_then_fails, some, none, some_fails, first_reads, first_one_fails, second_reads, second_one_fails, ungive, ungive_not, swap_reads, swap_fails, token_taken}
 use Rattle.mm_parse_var.specs.Parts.{declarators, following, value_of, arguments_of}
 
 abbrev t : Symbol → P Token
 t symbol = token (symbol ∷ [])
-
-pub eaten_shorter : (symbols : List Symbol) (ts r : List Token) (o : Option (Bor Token)) → Eats symbols ts o r → length r ≤ length ts
-eaten_shorter symbols ts r (Some x) h = let l = ap length h.0 in omega (arith, l)
-eaten_shorter symbols ts r None h = let l = ap length h.0 in omega (arith, l)
 
 -- ---- types
 
@@ -42,14 +36,9 @@ number_word ts r x v h e = ok_is number_type ts r v (b.word_type x) e (first_rea
 pub number_no_word : (ts us r : List Token) → Eats words ts None us → Fails units (t k.Unsigned) us r → Fails units number_type ts r
 number_no_word ts us r h a = second_one_fails _ _ words refl refl refl ts us r h (gives_not (λ v. b.unsigned_type v.0 v.1) _ _ _ (first_fails (t k.Unsigned) (opt (t k.Int)) refl us r a))
 
--- `int`, where it stands
-int_reads : (ts r : List Token) (o : Option (Bor Token)) → Eats (k.Int ∷ []) ts o r → Reads units (opt (t k.Int)) ts (option_copied o) r
-int_reads ts r (Some x) h = some (t k.Int) refl refl ts r x.now (ate (k.Int ∷ []) ts r x.now h)
-int_reads ts r None h = none (t k.Int) (k.Int ∷ []) refl refl ts r h
-
 pub number_unsigned : (ts us r1 r : List Token) (x : Token) (o : Option (Bor Token)) (v : TypeName) → Eats words ts None us → Reads units (t k.Unsigned) us x r1 → Eats (k.Int ∷ []) r1 o r → v ≡ b.unsigned_type x (option_copied o) → Reads units number_type ts v r
 number_unsigned ts us r1 r x o v h a i e = ok_is number_type ts r v (b.unsigned_type x (option_copied o)) e (second_reads _ _ words refl refl ts us r (b.unsigned_type x (option_copied o)) h
-    (gives (λ v. b.unsigned_type v.0 v.1) _ _ _ (x, option_copied o) (pair (t k.Unsigned) (opt (t k.Int)) refl us r1 r x (option_copied o) a (int_reads r1 r o i))))
+    (gives (λ v. b.unsigned_type v.0 v.1) _ _ _ (x, option_copied o) (pair (t k.Unsigned) (opt (t k.Int)) refl us r1 r x (option_copied o) a (token_taken (k.Int ∷ []) refl r1 r o i))))
 
 pub word_void : (ts r : List Token) (x : Token) (v : TypeName) → Took (k.Void ∷ []) ts x r → v ≡ b.word_type x → Reads units (alt void_type number_type) ts v r
 word_void ts r x v h e = ok_is (alt void_type number_type) ts r v (b.word_type x) e (first_reads void_type number_type (k.Void ∷ []) refl refl ts r r x (b.word_type x) h (gives b.word_type _ _ _ x (ate (k.Void ∷ []) ts r x h)))
@@ -142,32 +131,6 @@ declarator_no_value ts r1 r2 r m word a c d = named_not declarator ts r (gives_n
 pub declarator_reads : (ts r1 r2 r : List Token) (m : Option DeclaratorMark) (word : Token) (o : Option Initializer) (v : Declarator) → Reads units (opt mark) ts m r1 → Reads units (t k.Word) r1 word r2 → Reads units (opt initial) r2 o r → v ≡ bs.declarator m word o → Reads units (name declarator) ts v r
 declarator_reads ts r1 r2 r m word o v a c d e = ok_is (name declarator) ts r v (bs.declarator m word o) e (named declarator ts r (bs.declarator m word o)
     (gives (λ v. bs.declarator v.0 v.1.0 v.1.1) _ _ _ (m, (word, o)) (pair (opt mark) named_part refl ts r1 r m (word, o) a (pair (t k.Word) (opt initial) refl r1 r2 r word o c d))))
-
--- ---- the variables after the first
-
-abbrev pub FollowingSoFar : Declarator → List Declarator → List Token → List Token → Type 0
-FollowingSoFar first list ts rest = SoFar units (following first) next_declarator (λ vs. list ++ vs) ts rest
-
-pub following_start : (ts : List Token) (first : Declarator) (list : List Declarator) → list ≡ first ∷ [] → FollowingSoFar first list ts ts
-following_start ts first list e = subst (λ l. FollowingSoFar first l ts ts) (sym e) (record {
-  reads = λ vs r a. gives (λ vs. first ∷ vs) (many next_declarator) ts r vs a;
-  fails = λ r a. gives_not (λ vs. first ∷ vs) (many next_declarator) ts r a;
-})
-
-pub following_step : (first : Declarator) (ts rest us r : List Token) (list next : List Declarator) (v : Declarator) (x : Token) → FollowingSoFar first list ts rest → Took (k.Comma ∷ []) rest x us → Reads units (name declarator) us v r → next ≡ list ++ v ∷ [] → FollowingSoFar first next ts r
-following_step first ts rest us r list next v x s h a n =
-    once_more units ahead fit (following first) next_declarator (λ vs. list ++ vs) (λ vs. next ++ vs) (good (many next_declarator) refl) ts rest r v s
-    (after (t k.Comma) (name declarator) refl rest us r x v (ate (k.Comma ∷ []) rest us x h) a) (λ vs. sym (ap (λ l. l ++ vs) n ∙ append_assoc list (v ∷ []) vs))
-
-pub following_end : (first : Declarator) (ts rest us : List Token) (list : List Declarator) → FollowingSoFar first list ts rest → Eats (k.Comma ∷ []) rest None us → Reads units (following first) ts list us
-following_end first ts rest us list s h =
-    subst (λ w. Reads units (following first) ts list w) (sym h.0)
-    (subst (λ l. Reads units (following first) ts l rest) (append-nil list) (ended_here units ahead fit (following first) next_declarator (λ vs. list ++ vs) (good (many next_declarator) refl) ts rest s h.1))
-
-pub following_fails : (first : Declarator) (ts rest us r : List Token) (list : List Declarator) (x : Token) → FollowingSoFar first list ts rest → Took (k.Comma ∷ []) rest x us → length r ≤ length us → Fails units (name declarator) us r → Fails units (following first) ts r
-following_fails first ts rest us r list x s h n a =
-    failed_inside units ahead fit (following first) next_declarator (λ vs. list ++ vs) (good (many next_declarator) refl) ts rest r (taken_shorter (k.Comma ∷ []) rest us r x h n) s
-    (after_fails (t k.Comma) (name declarator) refl rest us r x (ate (k.Comma ∷ []) rest us x h) a)
 
 -- ---- variables
 

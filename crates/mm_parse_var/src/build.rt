@@ -1,6 +1,6 @@
 // Trees of types, variables and statements, from their tokens and parts.
 
-ghost use Rattle.std.specs.Prelude.{◌≡◌, [], ◌∷◌, ◌++◌, IfOk, OnOk, option_copied};
+ghost use Rattle.std.specs.Prelude.{◌≡◌, IfOk, option_copied};
 ghost use Rattle.mm_syntax.specs.Built.{unsigned_type};
 ghost use Rattle.mm_syntax.specs.BuiltStatements as bs;
 ghost use Rattle.mm_parse_var.specs.Parts.{value_of, arguments_of, expr_first, variables_first};
@@ -61,23 +61,6 @@ pub fn declarator(
             initializer,
         },
     )
-}
-
-/// A list of one variable.
-pub fn single(alloc: Global, item: Boxed<Declarator>) -> Result<Items<Declarator>, AllocError>
-    ensures { IfOk result (λ v. v ≡ item ∷ []) }
-{
-    let mut list = Items::new(alloc);
-    list.push(item.into_inner())?;
-    Ok(list)
-}
-
-/// Adds a variable to a list.
-pub fn push(list: &mut Items<Declarator>, item: Boxed<Declarator>) -> Result<(), AllocError>
-    ensures { OnOk result (list.new ≡ list.old ++ item ∷ []) }
-{
-    list.push(item.into_inner())?;
-    Ok(())
 }
 
 /// The declaration of variables.

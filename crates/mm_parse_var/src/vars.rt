@@ -7,6 +7,7 @@ ghost use Rattle.mm_syntax.specs.Rules as rules;
 ghost use Rattle.mm_parse_var.specs.Parts as parts;
 
 use crate::{build, types};
+use mm_cursor::list::{push, single};
 use mm_cursor::{Cursor, Stop};
 use mm_parse_expr::parser;
 use mm_syntax::stmt::{Declarator, Initializer, Variables};
@@ -44,10 +45,10 @@ fn following(
     ensures reads { Answers (parts.following first) cursor.old result cursor.new }
     ensures shorter { length cursor.new ≤ length cursor.old }
 {
-    let mut list = build::single(alloc, first)?;
+    let mut list = single(alloc, first)?;
     while cursor.eat(&[Symbol::Comma]).is_some() {
         let next = declarator(alloc, cursor)?;
-        build::push(&mut list, next)?;
+        push(&mut list, next)?;
     }
     Ok(list)
 }

@@ -10,4 +10,6 @@ mod front;
 #[cfg(test)]
 mod tests;
 #[cfg(test)]
+mod tokens;
+#[cfg(test)]
 mod trees;

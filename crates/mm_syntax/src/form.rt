@@ -1,7 +1,7 @@
 // The forms of trees, and sets of them.
 
 /// What a tree is for the order in which the language is built.
-#[derive(Clone, Copy, Debug, PartialEq, Eq)]
+#[derive(Clone, Copy)]
 pub enum Form {
     /// Expressions, statements and functions on arithmetic types.
     Scalar,
@@ -18,7 +18,7 @@ pub enum Form {
 }
 
 /// A set of forms: which of them are in it.
-#[derive(Clone, Copy, Debug, PartialEq, Eq)]
+#[derive(Clone, Copy)]
 pub struct Forms {
     pub scalars: bool,
     pub objects: bool,

@@ -48,7 +48,7 @@ fn is_last_suffix(last: Option<&u8>) -> bool
 }
 
 /// Who may use a member or a base.
-#[derive(Clone, Copy, Debug, PartialEq, Eq)]
+#[derive(Clone, Copy)]
 pub enum Access {
     Public,
     Protected,
@@ -56,14 +56,14 @@ pub enum Access {
 }
 
 /// The word that begins a class.
-#[derive(Clone, Copy, Debug, PartialEq, Eq)]
+#[derive(Clone, Copy)]
 pub enum ClassKey {
     Class,
     Struct,
 }
 
 /// What a mark before a declared name makes of its type.
-#[derive(Clone, Copy, Debug, PartialEq, Eq)]
+#[derive(Clone, Copy)]
 pub enum Indirection {
     /// `*`
     Pointer,
@@ -72,14 +72,14 @@ pub enum Indirection {
 }
 
 /// The mark before a declared name, with its place.
-#[derive(Clone, Copy, Debug)]
+#[derive(Clone, Copy)]
 pub struct DeclaratorMark {
     pub kind: Indirection,
     pub place: Place,
 }
 
 /// Operators before their operand.
-#[derive(Clone, Copy, Debug, PartialEq, Eq)]
+#[derive(Clone, Copy)]
 pub enum UnaryOperator {
     Plus,
     Minus,
@@ -95,7 +95,7 @@ pub enum UnaryOperator {
 }
 
 /// Operators after their operand.
-#[derive(Clone, Copy, Debug, PartialEq, Eq)]
+#[derive(Clone, Copy)]
 pub enum StepOperator {
     /// `++`
     Increment,
@@ -104,7 +104,7 @@ pub enum StepOperator {
 }
 
 /// Operators between two operands, but for those that assign.
-#[derive(Clone, Copy, Debug, PartialEq, Eq)]
+#[derive(Clone, Copy)]
 pub enum BinaryOperator {
     Or,
     And,
@@ -122,7 +122,7 @@ pub enum BinaryOperator {
 }
 
 /// Operators that assign.
-#[derive(Clone, Copy, Debug, PartialEq, Eq)]
+#[derive(Clone, Copy)]
 pub enum AssignOperator {
     /// `=`
     Set,
@@ -139,7 +139,7 @@ pub enum AssignOperator {
 }
 
 /// What stands between an object and its member.
-#[derive(Clone, Copy, Debug, PartialEq, Eq)]
+#[derive(Clone, Copy)]
 pub enum MemberOperator {
     /// `.`
     Dot,

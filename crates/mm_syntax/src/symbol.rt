@@ -6,7 +6,7 @@ ghost use Rattle.mm_syntax.specs.Symbols.{key_of, mark_of, symbol_of, number_of}
 use mm_token::token::{Kind, Token};
 
 /// What the grammar knows of a token.
-#[derive(Clone, Copy, Debug)]
+#[derive(Clone, Copy)]
 pub enum Symbol {
     /// An identifier that names no class.
     Word,

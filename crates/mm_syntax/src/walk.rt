@@ -20,7 +20,7 @@ use mm_base::place::Place;
 
 /// Which tree of the first texts a tree is, if it is one. These are the units `int main() { .. }` whose statements
 /// are `mm_put(sum);` and `return sum;`, with sums of `int` numbers.
-#[derive(Clone, Copy, Debug)]
+#[derive(Clone, Copy)]
 pub enum Built {
     Nothing,
     Number,
@@ -38,7 +38,7 @@ pub enum Built {
 }
 
 /// What a walk has seen of a tree: the first place of a wanted form, and which tree of the first texts it is.
-#[derive(Clone, Copy, Debug)]
+#[derive(Clone, Copy)]
 struct Seen {
     first: Option<Place>,
     built: Built,
@@ -46,7 +46,7 @@ struct Seen {
 
 /// What a walk has seen of the trees inside another: the first place of a wanted form, whether each is a tree of the
 /// first texts, and whether each is a statement of them.
-#[derive(Clone, Copy, Debug)]
+#[derive(Clone, Copy)]
 struct Inside {
     first: Option<Place>,
     all_built: bool,

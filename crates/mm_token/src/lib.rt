@@ -6,8 +6,6 @@ mod names;
 mod piece;
 pub mod read;
 mod scan;
-#[cfg(test)]
-mod tests;
 mod text;
 pub mod token;
 mod unit;

@@ -7,7 +7,7 @@ ghost use Rattle.mm_token.specs.Runs.{behind_line, IsRunOf, MayBeMark, BeginsWit
 ghost use Rattle.mm_token.specs.declared.piece.Sort.TheVariants.{Slash};
 
 /// What a character may begin.
-#[derive(Clone, Copy, Debug, PartialEq, Eq)]
+#[derive(Clone, Copy)]
 pub enum Sort {
     Blank,
     Slash,
@@ -19,7 +19,7 @@ pub enum Sort {
 }
 
 /// What a piece of a text is.
-#[derive(Clone, Copy, Debug, PartialEq, Eq)]
+#[derive(Clone, Copy)]
 pub enum Shape {
     /// One character of white space.
     Blank,

@@ -126,7 +126,7 @@ fn is_fresh_after(fresh: bool, shape: Shape, text: &[u32]) -> bool
 }
 
 /// A piece of a text, and where it stands.
-#[derive(Debug, Drop)]
+#[derive(Drop)]
 pub struct Piece<'a> {
     pub shape: Shape,
     pub text: &'a [u32],

@@ -10,7 +10,7 @@ use sqlite_items::Items;
 use std::alloc::AllocError;
 
 /// What sort of token a piece of text is.
-#[derive(Clone, Copy, Debug, PartialEq, Eq)]
+#[derive(Clone, Copy)]
 pub enum Kind {
     /// An identifier that names no class.
     Word,

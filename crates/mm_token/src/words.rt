@@ -11,7 +11,7 @@ ghost use Rattle.mm_token.specs.Runs.{NumberFault, NumberValue, IsRunOf};
 ghost use lib.Utf8.{scalar as character};
 
 /// What is wrong with a piece of a text.
-#[derive(Clone, Copy, Debug, PartialEq, Eq)]
+#[derive(Clone, Copy)]
 pub enum Wrong {
     /// Nothing begins a token here, or a number isn't one.
     NoToken,

@@ -2,13 +2,14 @@ use Rattle.std.proofs.Common.{◌≡◌, suc, [], ◌∷◌, ◌-◌, length, ap
 use Rattle.mm_syntax.specs.declared.symbol.Symbol.TheVariants as k
 use Rattle.mm_syntax.specs.Rules.{enclosed, maybe_expr}
 use Rattle.mm_cursor.proofs.Steps.{err, tail, eats_some, eats_none}
+use Rattle.mm_cursor.proofs.Lists.{list_empty}
 use Rattle.mm_parse_stmt.specs.Parts.{block_end, do_end, for_end, for_open, if_end, plain, until, while_end}
-use Rattle.mm_parse_stmt.proofs.Exits.{st, stmt_shorter, stmts_start, stmts_step, stmts_end, stmts_fail, if_no_condition, if_no_body, if_alone, if_no_other, if_both, while_no_condition, while_no_body, while_reads, do_no_body, do_no_condition, do_reads, for_no_start, for_no_condition, for_no_step, for_no_body, for_reads, none_left, stmt_block, stmt_no_block, stmt_if, stmt_no_if, stmt_while, stmt_no_while, stmt_do, stmt_no_do, stmt_for, stmt_no_for, stmt_plain, stmt_no_plain}
+use Rattle.mm_parse_stmt.proofs.Exits.{st, stmt_shorter, stmts_step, stmts_end, stmts_fail, if_no_condition, if_no_body, if_alone, if_no_other, if_both, while_no_condition, while_no_body, while_reads, do_no_body, do_no_condition, do_reads, for_no_start, for_no_condition, for_no_step, for_no_body, for_reads, none_left, stmt_block, stmt_no_block, stmt_if, stmt_no_if, stmt_while, stmt_no_while, stmt_do, stmt_no_do, stmt_for, stmt_no_for, stmt_plain, stmt_no_plain}
 use Rattle.mm_parse_stmt.proofs.stmt.+stmt.Goals as goal
 
 pub block_end-loop-alloc-init : goal.block_end-loop-alloc-init
 block_end-loop-alloc-init t c =
-    record { so_far = stmts_start c.args.nesting _ _ c.new-stmts.ensures; shorter = omega arith }
+    record { so_far = list_empty (st c.args.nesting) _ _ c.new-stmts.ensures; shorter = omega arith }
 
 pub block_end-returns-in_err-next-clause-reads : goal.block_end-returns-in_err-next-clause-reads
 block_end-returns-in_err-next-clause-reads t c =

@@ -2,8 +2,8 @@ use Rattle.std.proofs.Common.{[], ◌∷◌, arith}
 use Rattle.mm_grammar.specs.Grammar.{name, opt}
 use Rattle.mm_syntax.specs.declared.symbol.Symbol.TheVariants as k
 use Rattle.mm_syntax.specs.Rules.{expr, args, initial}
-use Rattle.mm_cursor.proofs.Steps.{err, err_take, eats_some, eats_none}
-use Rattle.mm_parse_var.proofs.Exits.{eaten_shorter, initial_value, initial_no_value, initial_none, initial_no_args, initial_unclosed, initial_args}
+use Rattle.mm_cursor.proofs.Steps.{err, err_take, eats_some, eats_none, eats_shorter}
+use Rattle.mm_parse_var.proofs.Exits.{initial_value, initial_no_value, initial_none, initial_no_args, initial_unclosed, initial_args}
 use Rattle.mm_parse_var.proofs.vars.initial.Goals as goal
 
 pub returns-in_err-value-clause-reads : goal.returns-in_err-value-clause-reads
@@ -30,8 +30,8 @@ returns-in_err-take-clause-reads c =
 
 pub returns-in_err-arguments-clause-shorter : goal.returns-in_err-arguments-clause-shorter
 returns-in_err-arguments-clause-shorter c =
-    let m = eaten_shorter (k.Assign ∷ []) _ _ _ c.eat.ensures in
-    let n = eaten_shorter (k.Open ∷ []) _ _ _ c.eat-2.ensures in
+    let m = eats_shorter (k.Assign ∷ []) _ _ _ c.eat.ensures in
+    let n = eats_shorter (k.Open ∷ []) _ _ _ c.eat-2.ensures in
     omega (arith, m, n, c.in_ok-args.ensures.shorter, c.in_ok-take.ensures.shorter)
 
 pub returns-then-is_some-2-clause-reads : goal.returns-then-is_some-2-clause-reads
@@ -42,8 +42,8 @@ returns-then-is_some-2-clause-reads c =
 
 pub returns-then-is_some-2-clause-shorter : goal.returns-then-is_some-2-clause-shorter
 returns-then-is_some-2-clause-shorter c =
-    let m = eaten_shorter (k.Assign ∷ []) _ _ _ c.eat.ensures in
-    let n = eaten_shorter (k.Open ∷ []) _ _ _ c.eat-2.ensures in
+    let m = eats_shorter (k.Assign ∷ []) _ _ _ c.eat.ensures in
+    let n = eats_shorter (k.Open ∷ []) _ _ _ c.eat-2.ensures in
     omega (arith, m, n, c.in_ok-args.ensures.shorter, c.in_ok-take.ensures.shorter)
 
 pub returns-clause-reads : goal.returns-clause-reads

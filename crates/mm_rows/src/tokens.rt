@@ -1,8 +1,10 @@
-use crate::read::get_tokens;
-use crate::token::{Kind, Token, TokenEnd};
+// The tokens of units and of their headers, each with its kind, its place and its text, or the first lexical fault.
+
 use mm_base::code::Code;
 use mm_base::place::Place;
 use mm_base::sure::SureFiles;
+use mm_token::read::get_tokens;
+use mm_token::token::{Kind, Token, TokenEnd};
 use std::alloc::{AllocError, Global};
 use std::test::Fail;
 
