@@ -26,4 +26,4 @@ pub record IsRoundOf (cells : List ℕ) (rows width : ℕ) (kept : ℕ) (slots t
   pub count : length turned ≡ width * kept
   pub same : (i c : ℕ) → i < rows → c < width → get_or turned (c * kept + get_or slots i 0) 0 ≡ get_or cells (i * width + c) 0
   pub once : (i j : ℕ) → i < rows → j < rows
-    → ((c : ℕ) → c < width → get_or cells (i * width + c) 0 ≡ get_or cells (j * width + c) 0) → get_or slots i 0 ≡ get_or slots j 0
+      → ((c : ℕ) → c < width → get_or cells (i * width + c) 0 ≡ get_or cells (j * width + c) 0) → get_or slots i 0 ≡ get_or slots j 0

@@ -33,7 +33,7 @@ HasCells shape cells t = (place : List ℕ) → IsPlace shape place → kept_at 
 -- along each axis two places have one kept slice exactly where their slices of the full table are equal
 abbrev pub KeepsOnce : List ℕ → List ℕ → Table → Type 0
 KeepsOnce shape cells t = (axis i j : ℕ) → axis < length shape → i < get_or shape axis 0 → j < get_or shape axis 0
-  → (slot_of t.slots axis i ≡ slot_of t.slots axis j) ↔ AreAlike shape cells axis i j
+    → (slot_of t.slots axis i ≡ slot_of t.slots axis j) ↔ AreAlike shape cells axis i j
 
 -- no two kept slices along one axis are equal
 abbrev pub AreApart : Table → Type 0

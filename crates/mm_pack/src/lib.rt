@@ -4,6 +4,5 @@
 pub mod packing;
 pub mod round;
 pub mod table;
-
 #[cfg(test)]
 mod tests;

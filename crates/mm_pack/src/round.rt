@@ -43,11 +43,7 @@ pub fn number_rows<'a>(
 }
 
 /// Appends one column of the rows.
-pub fn push_column(
-    cells: &mut Vec<u32>,
-    rows: &[&[u32]],
-    column: usize,
-) -> Result<(), AllocError>
+pub fn push_column(cells: &mut Vec<u32>, rows: &[&[u32]], column: usize) -> Result<(), AllocError>
     requires wide { All (λ r. column < length r.now) rows.now }
     requires low { column < 2 ^ 20 }
     ensures { OnOk result (cells.new.items ≡ cells.old.items ++ map (λ r. get_or r.now column 0) rows.now) }
@@ -72,12 +68,7 @@ pub fn turn(alloc: Global, rows: &[&[u32]], width: usize) -> Result<Vec<u32>, Al
 }
 
 /// Keeps equal rows once, and turns what is kept.
-pub fn reduce(
-    alloc: Global,
-    cells: &[u32],
-    rows: usize,
-    width: usize,
-) -> Result<Round, AllocError>
+pub fn reduce(alloc: Global, cells: &[u32], rows: usize, width: usize) -> Result<Round, AllocError>
     requires count { length cells.now ≡ rows * width }
     requires few { rows ≤ 2 ^ 20 }
     requires narrow { width ≤ 2 ^ 20 }

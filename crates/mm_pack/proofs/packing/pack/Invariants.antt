@@ -5,4 +5,4 @@ use Rattle.mm_pack.proofs.packing.pack.Given as goal
 
 abbrev pub invariant-loop-places : goal.invariant-loop-places
 invariant-loop-places l =
-  ArePacked l.shape (take l.places-index l.shape) (drop l.places-index l.shape) l.lengths.items (lists_in l.slots.items) l.fn.cells l.left.items
+    ArePacked l.shape (take l.places-index l.shape) (drop l.places-index l.shape) l.lengths.items (lists_in l.slots.items) l.fn.cells l.left.items
