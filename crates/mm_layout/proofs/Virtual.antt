@@ -20,9 +20,9 @@ other_head g c (h ∷ t) s ne = elim s.0 [ inl e ↦ absurd (ne e) | inr v ↦ (
 -- where all begin with the class it has no virtual base
 pub no_virtual : (g : List Class) → IsClassList g → (c : ℕ) → ((k : ℕ) → k < length (subobjects_of g c) → get_or (node g c k) 0 0 ≡ c) → (v : ℕ) × IsVirtual g c v → ⊥
 no_virtual g ok c own (v, virtual) =
-  let here : (i : ℕ) × (i < length (subobjects_of g c)) × (node g c i ≡ v ∷ []) = place_from_Has (subobjects_of g c) [] (are_subobjects g ok c (v ∷ []) (inr virtual, tt)) in
-  let same : v ≡ c = ap (λ p. get_or p 0 0) (sym here.2) ∙ own here.0 here.1 in
-  no_less (ok.rank c) (subst (λ x. ok.rank x < ok.rank c) same (virtual_falls g ok c v virtual))
+    let here : (i : ℕ) × (i < length (subobjects_of g c)) × (node g c i ≡ v ∷ []) = place_from_Has (subobjects_of g c) [] (are_subobjects g ok c (v ∷ []) (inr virtual, tt)) in
+    let same : v ≡ c = ap (λ p. get_or p 0 0) (sym here.2) ∙ own here.0 here.1 in
+    no_less (ok.rank c) (subst (λ x. ok.rank x < ok.rank c) same (virtual_falls g ok c v virtual))
   where
     no_less : (n : ℕ) → n < n → ⊥
     no_less n h = omega arith
@@ -49,14 +49,14 @@ bare_has_none g ok c bare (inl (b, inr d, has)) = no_derived g c b (ok.bare c ba
 -- a direct base is declared
 pub base_low : (g : List Class) → IsClassList g → (c n : ℕ) (b : Base) (bs : List Base) → bs ≡ bases_of g c → n < length bs → b ≡ get_or bs n b → b.class < length g
 base_low g ok c n b bs e h r =
-  let has : Has bs b = subst (Has bs) (sym r) (Has-get_or bs n b h) in
-  complete_below g b.class (ok.known c b (subst (λ xs. Has xs b) e has))
+    let has : Has bs b = subst (Has bs) (sym r) (Has-get_or bs n b h) in
+    complete_below g b.class (ok.known c b (subst (λ xs. Has xs b) e has))
 
 -- what holds of each element, with one more at the end
 pub pushed : {X : Type 0} (P : ℕ → X → Type 0) (xs new : List X) (n : ℕ) (x d : X) → length xs ≡ n → ((k : ℕ) → k < n → P k (get_or xs k d)) → P n x
-  → new ≡ xs ++ x ∷ [] → (k : ℕ) → k < n + 1 → P k (get_or new k d)
+    → new ≡ xs ++ x ∷ [] → (k : ℕ) → k < n + 1 → P k (get_or new k d)
 pushed P xs new n x d long each here e k h = subst (λ ys. P k (get_or ys k d)) (sym e) (elim (cases_lt k n) [
-  inl before ↦ let inside : k < length xs = omega (arith, long) in subst (P k) (sym (get_or_append_left xs (x ∷ []) d k inside)) (each k before)
+  | inl before ↦ let inside : k < length xs = omega (arith, long) in subst (P k) (sym (get_or_append_left xs (x ∷ []) d k inside)) (each k before)
   | inr past ↦ let is : n ≡ k = omega arith in subst (P k) (sym (get_or_push xs x d k (long ∙ is))) (subst (λ i. P i x) is here)
 ])
 

@@ -14,7 +14,7 @@ pub record LaysOut (g : List Class) (tagged : ℕ → Bool) (d : ℕ) : Type 0 w
   pub inside : (n : ℕ) → IsNode g d n → offset_of g tagged d n + region_of g tagged (end_of (node g d n)) ≤ size_of g tagged d
   pub aligned : (n : ℕ) → (k : ℕ) × (offset_of g tagged d n ≡ 8 * k)
   pub composed : (n m k : ℕ) (t : Path) → IsNode g d n → IsNode g (end_of (node g d n)) m → IsNode g d k → node g (end_of (node g d n)) m ≡ end_of (node g d n) ∷ t
-    → node g d k ≡ compose (node g d n) (node g (end_of (node g d n)) m) → offset_of g tagged d k ≡ offset_of g tagged d n + offset_of g tagged (end_of (node g d n)) m
+      → node g d k ≡ compose (node g d n) (node g (end_of (node g d n)) m) → offset_of g tagged d k ≡ offset_of g tagged d n + offset_of g tagged (end_of (node g d n)) m
 
 -- the k-th member is a field
 abbrev pub IsFieldAt : List Class → ℕ → ℕ → Type 0

@@ -4,6 +4,5 @@
 pub mod layout;
 pub mod region;
 pub mod tags;
-
 #[cfg(test)]
 mod tests;

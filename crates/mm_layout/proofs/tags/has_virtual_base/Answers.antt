@@ -7,9 +7,12 @@ pub loop-n-preserved : goal.loop-n-preserved
 loop-n-preserved c = record {
   low = omega arith;
   own = below_more _ _ c.loop-n.invariant.own (head_is c.path.result.now (node c.args.graph.now c.args.c c.loop-n.n) c.index-path-0.result c.args.c
-    c.path.ensures.path c.path.ensures.long c.index-path-0.is (sym c.ne.ensures ∙ c.if-ne.false));
+      c.path.ensures.path c.path.ensures.long c.index-path-0.is (sym c.ne.ensures ∙ c.if-ne.false));
 }
 
 pub returns : goal.returns
-returns c = (λ e. cc, λ v. absurd (no_virtual c.args.graph.now c.requires.valid c.args.c
-  (λ k h. let low : k < c.loop-n.n = omega (arith, c.count-count.ensures.count) in c.loop-n.invariant.own k low) v))
+returns c = (
+  λ e. cc,
+  λ v. absurd (no_virtual c.args.graph.now c.requires.valid c.args.c
+      (λ k h. let low : k < c.loop-n.n = omega (arith, c.count-count.ensures.count) in c.loop-n.invariant.own k low) v),
+)

@@ -10,5 +10,5 @@ loop-c-preserved c = record {
   low = omega arith;
   long = ap length c.in_ok-push.ensures.items ∙ length_push c.loop-c.tags.items c.has_tag.result ∙ ap (λ n. n + 1) c.loop-c.invariant.long;
   done = pushed (λ k b. Decides b (HasTag c.args.graph.now k)) c.loop-c.tags.items c.push.new.self.items c.loop-c.c c.has_tag.result false c.loop-c.invariant.long c.loop-c.invariant.done
-    c.has_tag.ensures c.in_ok-push.ensures.items;
+      c.has_tag.ensures c.in_ok-push.ensures.items;
 }
