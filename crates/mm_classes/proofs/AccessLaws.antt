@@ -1,6 +1,6 @@
 -- Each subobject has one access: the greatest over the ways to it.
 use Rattle.std.proofs.Common.{◌≡◌, ◌≢◌, ℕ, zero, suc, ◌+◌, ◌<◌, ◌≤◌, List, [], ◌∷◌, ◌++◌, length, get_or, take, refl, sym, subst, ap, ◌∙◌, inl, inr, arith}
-use Rattle.std.specs.Prelude.{true, false, ◌⊎◌, cond, nat_le, nat_lt, min, Option, None, Some}
+use Rattle.std.specs.Prelude.{true, false, ◌⊎◌, cond, nat_le, min, Option, None, Some}
 use Rattle.std.proofs.lemmas.Bool.Decides.{nat_tests, leb_tells}
 use Rattle.mm_classes.specs.declared.class.Access.{Access}
 use Rattle.mm_classes.specs.declared.class.Access.TheVariants.{Public, Protected, Private}
@@ -8,7 +8,7 @@ use Rattle.mm_classes.specs.declared.class.Base.{Base}
 use Rattle.mm_classes.specs.Lists.{Has}
 use Rattle.mm_classes.specs.Classes.{Class, class_at, bases_of, IsClassList}
 use Rattle.mm_classes.specs.Subobjects.{Path, IsSubobject}
-use Rattle.mm_classes.specs.Access.{grade, lesser, passed, AreLinks, composed_links, access_along, IsAccess}
+use Rattle.mm_classes.specs.Access.{grade, lesser, passed, AreLinks, composed_links, access_along, IsAccess, greater, IsGreatestOf}
 use Rattle.mm_classes.proofs.Ways.{links_else, to_links, from_links}
 
 -- GRADES
@@ -148,14 +148,6 @@ module _ (g g' : List Class) (ok : IsClassList g) (same : (x : ℕ) → (class_a
   }
 
 -- THE GREATEST OF SOME
--- x is the greatest of those with a property, or none where there is none
-pub record IsGreatestOf (W : Option Access → Type 0) (x : Option Access) : Type 0 where
-  pub among : (x ≡ None) ⊎ W x
-  pub above : (y : Option Access) → W y → grade y ≤ grade x
-
-abbrev pub greater : Option Access → Option Access → Option Access
-greater x y = cond (nat_lt (grade x) (grade y)) y x
-
 pub greatest-none : (W : Option Access → Type 0) → ((y : Option Access) → W y → ⊥) → IsGreatestOf W None
 greatest-none W h = record { among = inl refl; above = λ y w. absurd (h y w) }
 

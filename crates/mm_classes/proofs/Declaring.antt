@@ -57,7 +57,7 @@ module _ (g : List Class) (n : List ℕ) where
   same_members : (x : ℕ) → members_of (g ++ fresh n ∷ []) x ≡ members_of g x
   same_members x = same_part (λ (c : Class). c.members) refl x
 
-  same_complete : (x : ℕ) → (class_at (g ++ fresh n ∷ []) x).complete ≡ (class_at g x).complete
+  pub same_complete : (x : ℕ) → (class_at (g ++ fresh n ∷ []) x).complete ≡ (class_at g x).complete
   same_complete x = same_part (λ (c : Class). c.complete) refl x
 
   new_name : IsClassList g → (Has (names_in g) n → ⊥) → Distinct (names_in (g ++ fresh n ∷ []))

@@ -151,10 +151,10 @@ added-names g c bs ms h = names-set g c (new_class g c bs ms) h refl
 
 -- a class that was incomplete is completed by bases that are complete, each once
 module _ (g : List Class) (ok : IsClassList g) (c : ℕ) (bs : List Base) (ms : List Member) (new : CanAdd g c bs ms) where
-  at_new : class_at (added g c bs ms) c ≡ new_class g c bs ms
+  pub at_new : class_at (added g c bs ms) c ≡ new_class g c bs ms
   at_new = get_or-set_same g c (new_class g c bs ms) unknown new.here
 
-  at_other : (x : ℕ) → x ≢ c → class_at (added g c bs ms) x ≡ class_at g x
+  pub at_other : (x : ℕ) → x ≢ c → class_at (added g c bs ms) x ≡ class_at g x
   at_other x ne = get_or-set_other g c x (new_class g c bs ms) unknown ne
 
   complete_other : (x : ℕ) → (class_at g x).complete ≡ true → x ≢ c
@@ -237,7 +237,7 @@ module _ (g : List Class) (ok : IsClassList g) (c : ℕ) (bs : List Base) (ms : 
   pub added-chains_kept : (x : ℕ) → (class_at g x).complete ≡ true → chains (added g c bs ms) (length (added g c bs ms)) x ≡ chains g (length g) x
   added-chains_kept = chains-all_kept g (added g c bs ms) ok as_long as_before
 
-  new_bases : bases_of (added g c bs ms) c ≡ bs
+  pub new_bases : bases_of (added g c bs ms) c ≡ bs
   new_bases = ap (λ (k : Class). k.bases) at_new
 
   pub added-virtual_bases : virtual_bases (added g c bs ms) c ≡ new_virtual_bases g bs

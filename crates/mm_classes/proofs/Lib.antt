@@ -14,3 +14,4 @@ pub mod Places
 pub mod Ways
 pub mod AccessLaws
 pub mod Tops
+pub mod Parts

@@ -1,6 +1,6 @@
 -- The access of a member along direct bases. ISO/IEC 14882:1998, 11 (member access control), 11.2 (accessibility of base
 -- classes and base class members), 11.7 (multiple access).
-use Rattle.std.specs.Prelude.{◌≡◌, ℕ, ◌≤◌, List, [], ◌∷◌, cond, Option, None, Some}
+use Rattle.std.specs.Prelude.{◌≡◌, ℕ, ◌≤◌, ◌⊎◌, List, [], ◌∷◌, cond, nat_lt, Option, None, Some}
 use Rattle.mm_classes.specs.declared.class.Access.{Access}
 use Rattle.mm_classes.specs.declared.class.Access.TheVariants.{Public, Protected, Private}
 use Rattle.mm_classes.specs.declared.class.Base.{Base}
@@ -14,6 +14,15 @@ grade None = 0
 grade (Some Private) = 1
 grade (Some Protected) = 2
 grade (Some Public) = 3
+
+-- the greater of two
+abbrev pub greater : Option Access → Option Access → Option Access
+greater x y = cond (nat_lt (grade x) (grade y)) y x
+
+-- x is the greatest of those with a property, or none where there is none
+pub record IsGreatestOf (W : Option Access → Type 0) (x : Option Access) : Type 0 where
+  pub among : (x ≡ None) ⊎ W x
+  pub above : (y : Option Access) → W y → grade y ≤ grade x
 
 -- the lesser of two
 abbrev pub lesser : Access → Access → Access
