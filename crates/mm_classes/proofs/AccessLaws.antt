@@ -97,12 +97,12 @@ passed-capped Public (Some Public) = refl
 passed-capped Protected (Some Public) = refl
 passed-capped Private (Some Public) = refl
 
-along_capped : (bs : List Base) → access_along bs (Some Protected) ≡ capped Protected (access_along bs (Some Public))
+pub along_capped : (bs : List Base) → access_along bs (Some Protected) ≡ capped Protected (access_along bs (Some Public))
 unfolding capped
 along_capped [] = refl
 along_capped (b ∷ bs) = ap (passed b.access) (along_capped bs) ∙ passed-capped b.access (access_along bs (Some Public))
 
-capped-grade : (x : Option Access) → grade (capped Protected x) ≡ min 2 (grade x)
+pub capped-grade : (x : Option Access) → grade (capped Protected x) ≡ min 2 (grade x)
 unfolding capped
 capped-grade None = refl
 capped-grade (Some Private) = refl

@@ -7,6 +7,7 @@ use Rattle.mm_classes.specs.Lists.{Has, has}
 use Rattle.mm_classes.specs.Classes.{Class, IsClassList}
 use Rattle.mm_classes.specs.Subobjects.{Path, IsSubobject, end_of, compose, IsWithin, subobjects_of, virtual_bases}
 use Rattle.mm_classes.specs.Questions.{node, IsNode, Picks, IsLeft}
+use Rattle.mm_classes.specs.Tops.{ContainsAll, IsBest}
 use Rattle.mm_classes.proofs.Lists.{has-true, has-Has}
 use Rattle.mm_classes.proofs.Subs.{subobjects-Distinct, deep}
 use Rattle.mm_classes.proofs.Compose.{compose-end, compose_whole, whole_or_lower, within-self, within-within, within-same}
@@ -49,16 +50,6 @@ three_ways a b ne = grind arith
 
 last_or : (m n : ℕ) → m < n + 1 → (m < n) ⊎ (m ≡ n)
 last_or m n l = grind arith
-
--- the m-th subobject contains all of the first n that have the property
-abbrev pub ContainsAll : List Class → ℕ → (ℕ → Type 0) → ℕ → ℕ → Type 0
-ContainsAll g c P m n = (k : ℕ) → k < n → P k → IsWithin g (node g c k) (node g c m)
-
--- b has the property, and where one of the first n that have it contains all of these, it is b
-pub record IsBest (g : List Class) (c : ℕ) (P : ℕ → Type 0) (b n : ℕ) : Type 0 where
-  pub below : b < n
-  pub fits : P b
-  pub only : (m : ℕ) → m < n → P m → ContainsAll g c P m n → m ≡ b
 
 module _ (g : List Class) (ok : IsClassList g) (c : ℕ) where
   within_or : (n m : ℕ) → IsNode g c n → IsNode g c m → IsWithin g (node g c n) (node g c m) ⊎ (IsWithin g (node g c n) (node g c m) → ⊥)

@@ -38,7 +38,7 @@ module _ (g : List Class) where
   links_sub c (b ∷ bs) k = compose-sub g c (link_of c b) (composed_links b.class bs) (link_sub c b k.0)
       (subst (λ w. IsSubobject g w (composed_links b.class bs)) (sym (link_end c b)) (links_sub b.class bs k.1))
 
-  links_end : (c : ℕ) (b : Base) (bs : List Base) → AreLinks g c (b ∷ bs) → end_of (composed_links c (b ∷ bs)) ≡ end_of (composed_links b.class bs)
+  pub links_end : (c : ℕ) (b : Base) (bs : List Base) → AreLinks g c (b ∷ bs) → end_of (composed_links c (b ∷ bs)) ≡ end_of (composed_links b.class bs)
   links_end c b bs k = compose-end g c (link_of c b) (composed_links b.class bs) (link_sub c b k.0)
       (subst (λ w. IsSubobject g w (composed_links b.class bs)) (sym (link_end c b)) (links_sub b.class bs k.1))
 

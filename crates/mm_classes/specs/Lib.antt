@@ -2,6 +2,7 @@ pub mod Lists
 pub mod Classes
 pub mod Subobjects
 pub mod Questions
+pub mod Tops
 pub mod Adding
 pub mod Access
 pub mod Functions

@@ -95,6 +95,16 @@ module _ (g : List Class) (ps : List Parts) (s : IsStored g ps) (c : ℕ) (bs : 
       let l = length-map p.nodes.items (λ (x : Node). x.path.items) in
       let f = made.few in omega arith
 
+-- the same, as it is written down
+pub inserted : (g t t' : List Class) (ps : List Parts) (c i : ℕ) (bs bs' : List Base) (ms ms' : List Member) (p : Parts) → t ≡ g → IsStored t ps → CanAdd g c bs ms → AreNewParts g c bs ms p
+    → i ≡ c → bs' ≡ bs → ms' ≡ ms → t' ≡ added t c bs' ms' → IsStored t' (set ps i p) × (length (subobjects_of t' c) ≤ 256)
+inserted g t t' ps c i bs bs' ms ms' p e stored new made ei eb em et =
+    let s : IsStored g ps = subst (λ (z : List Class). IsStored z ps) e stored in
+    let v : t' ≡ added g c bs ms = et ∙ (ap (λ (z : List Class). added z c bs' ms') e ∙ ap₂ (λ (x : List Base) (y : List Member). added g c x y) eb em) in (
+      subst (λ (z : List Class). IsStored z (set ps i p)) (sym v) (subst (λ k. IsStored (added g c bs ms) (set ps k p)) (sym ei) (added_stored g ps s c bs ms new p made)),
+      subst (λ (z : List Class). length (subobjects_of z c) ≤ 256) (sym v) (added_few g ps s c bs ms new p made),
+    )
+
 pub many_is : (g : List Class) (ok : IsClassList g) (c : ℕ) (bs : List Base) (ms : List Member) → CanAdd g c bs ms
     → (256 < length (new_subobjects g c bs)) ⊎ (2 ^ 19 < field_count ms) → AreTooMany g c bs ms
 many_is g ok c bs ms new (inl h) = inl (subst (λ (x : List Path). 256 < length x) (sym (added-subobjects g ok c bs ms new)) h)

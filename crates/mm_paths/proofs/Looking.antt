@@ -23,7 +23,7 @@ nothing = record { class = 0; shared = false; access = Public }
 pub names_more : (bs : List Base) (i : ℕ) → i < length bs → classes_of (take (i + 1) bs) ≡ classes_of (take i bs) ++ (base_at bs i).class ∷ []
 names_more bs i l = ap classes_of (take_more bs i nothing l) ∙ map-append (λ (b : Base). b.class) (take i bs) (base_at bs i ∷ [])
 
-base_same : (bs : List Base) (i : ℕ) (d : Base) → i < length bs → get_or bs i d ≡ base_at bs i
+pub base_same : (bs : List Base) (i : ℕ) (d : Base) → i < length bs → get_or bs i d ≡ base_at bs i
 base_same [] i d l = absurd (omega arith)
 base_same (b ∷ bs) zero d l = refl
 base_same (b ∷ bs) (suc i) d l = base_same bs i d (omega arith)

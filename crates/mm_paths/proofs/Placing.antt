@@ -82,6 +82,12 @@ module _ (g : List Class) (ok : IsClassList g) where
         (subst (IsNode g d) (sym q.6) k.1, ap (node g d) q.6 ∙ k.2))
   ]
 
+  pub placed_at : (d n m c r : ℕ) (shared starts : List ℕ) → IsNode g d n → IsNode g (end_of (node g d n)) m → c ≡ end_of (node g d n)
+      → shared ≡ virtual_bases g d → starts ≡ starts_of g d → (n' m' : ℕ) → n' ≡ n → m' ≡ m → IsPlaced g c n' m' shared starts r
+      → IsNode g d r × (node g d r ≡ compose (node g d n) (node g (end_of (node g d n)) m))
+  placed_at d n m c r shared starts hn hm ec es et n' m' en em p = placed d n m c r shared starts hn hm ec es et
+      (subst (λ y. IsPlaced g c n y shared starts r) em (subst (λ x. IsPlaced g c x m' shared starts r) en p))
+
 -- in a list that has the same complete classes
 module _ (g g' : List Class) (ok : IsClassList g) (longer : length g ≤ length g') (same : (x : ℕ) → (class_at g x).complete ≡ true → class_at g' x ≡ class_at g x) where
   start-kept : (c v s : ℕ) → (class_at g c).complete ≡ true → IsStart g c v s → IsStart g' c v s
@@ -112,3 +118,16 @@ module _ (g g' : List Class) (ok : IsClassList g) (longer : length g ≤ length 
       let own : length (chains g' (length g') c) ≡ length (chains g (length g) c) = ap length (chains-all_kept g g' ok longer same c k) in
       let e : node g' c m ≡ node g c m = ap (λ (z : List Path). get_or z m []) (subobjects-kept g g' ok longer same c k) in
       record { long = a.long; low = a.low; has = λ l. subst (λ (z : Path). Has shared (get_or z 0 0)) e (a.has (omega arith)) }
+
+-- what begins at a virtual base
+pub head_has : (g : List Class) (ok : IsClassList g) (c m v : ℕ) (path : List ℕ) → IsNode g c m → length (chains g (length g) c) ≤ m → path ≡ node g c m → v ≡ get_or path 0 v → Has (virtual_bases g c) v
+head_has g ok c m v path h l ep ev =
+    let f = node_first g ok c in
+    let e : c ≡ end_of (node g c 0) = sym (ap end_of f.0) in
+    (head_in g ok c 0 m c f.1 (subst (λ z. IsNode g z m) e h) e (length (chains g (length g) c)) v path refl l ep ev).0
+
+-- the same for a start that is found by the head of a path
+pub start_behind : (g : List Class) (ok : IsClassList g) (c m s v : ℕ) (path : List ℕ) → IsNode g c m → length (chains g (length g) c) ≤ m → path ≡ node g c m → v ≡ get_or path 0 v → IsStart g c v s → s ≤ m
+start_behind g ok c m s v path h l ep ev a =
+    let e : v ≡ get_or (node g c m) 0 0 = ev ∙ (ap (λ z. get_or z 0 v) ep ∙ same_head (node g c m) v (sub_long g ok c (node g c m) (node_sub g ok c m h))) in
+    start_low g ok c m s h l (subst (λ z. IsStart g c z s) e a)

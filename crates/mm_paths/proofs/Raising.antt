@@ -1,19 +1,19 @@
 -- The access of the subobjects of a new class, base by base.
-use Rattle.std.proofs.Common.{◌≡◌, ◌≢◌, ℕ, ◌+◌, ◌<◌, ◌≤◌, List, [], ◌∷◌, ◌++◌, length, get_or, set, take, drop, map, refl, sym, subst, ap, ap₂, ◌∙◌, inl, inr, arith, length-append, length-set}
+use Rattle.std.proofs.Common.{◌≡◌, ◌≢◌, ℕ, ◌+◌, ◌<◌, ◌≤◌, List, [], ◌∷◌, ◌++◌, length, get_or, set, take, drop, map, refl, sym, subst, ap, ap₂, ◌∙◌, inl, inr, arith, append_assoc, length-append, length-set}
 use Rattle.std.specs.Prelude.{true, false, ◌⊎◌, cond, Option, None, Some}
 use Rattle.std.specs.List.{flat_map}
 use Rattle.std.proofs.lemmas.Bool.Decides.{eqb_tells}
-use Rattle.std.proofs.lemmas.List.{get_or-set_same, get_or-set_other, take_all, take_more, get_or-append_right}
+use Rattle.std.proofs.lemmas.List.{get_or-set_same, get_or-set_other, take_all, get_or-map, length-map}
 use Rattle.mm_classes.specs.declared.class.Access.{Access}
 use Rattle.mm_classes.specs.declared.class.Access.TheVariants.{Public}
 use Rattle.mm_classes.specs.declared.class.Base.{Base}
 use Rattle.mm_classes.specs.Lists.{Has, first, later, Distinct}
 use Rattle.mm_classes.specs.Classes.{Class, class_at, bases_of, IsClassList}
-use Rattle.mm_classes.specs.Subobjects.{Path, listed, chains, plain_bases, virtual_bases, subobjects_of, end_of, compose}
+use Rattle.mm_classes.specs.Subobjects.{Path, IsSubobject, listed, chains, plain_bases, virtual_bases, subobjects_of, end_of, compose}
 use Rattle.mm_classes.specs.Access.{grade, passed, greater, IsGreatestOf, link_of, AreLinks, composed_links, access_along, IsAccess}
 use Rattle.mm_classes.specs.Questions.{node, IsNode, start_of}
 use Rattle.mm_classes.specs.Adding.{added, CanAdd, new_chains, new_virtual_bases, new_subobjects}
-use Rattle.mm_classes.proofs.Lists.{Has-append}
+use Rattle.mm_classes.proofs.Lists.{Has-append, Has-left, Has-right}
 use Rattle.mm_classes.proofs.Answering.{place_from_Has, node_sub, Has-get_or}
 use Rattle.mm_classes.proofs.Subs.{are_subobjects, subobjects-Distinct}
 use Rattle.mm_classes.proofs.Within.{are_virtual_bases}
@@ -25,10 +25,10 @@ use Rattle.mm_classes.proofs.Places.{base_block}
 use Rattle.mm_paths.specs.Ends.{plain_block}
 use Rattle.mm_paths.specs.Stored.{HaveAccess, IsStart, new_starts, starts_of}
 use Rattle.mm_paths.specs.Reach.{WaysBy, WaysIn, AreGreatest, AreGreatestWith, AreStarts, IsPlaced}
-use Rattle.mm_paths.proofs.Starts.{starts-at}
+use Rattle.mm_paths.proofs.Starts.{starts-at, starts-long}
 use Rattle.mm_paths.proofs.Placing.{node_first, placed, placed-kept, starts_stand, starts-back}
 use Rattle.mm_paths.proofs.Added.{new_starts_are}
-use Rattle.mm_paths.proofs.Building.{plain_blocks, flat_map-split, flat_map-more, take_at_more}
+use Rattle.mm_paths.proofs.Building.{plain_blocks, flat_map-split, own_more, take_at_more}
 
 last_or : (m n : ℕ) → m < n + 1 → (m < n) ⊎ (m ≡ n)
 last_or m n l = grind arith
@@ -163,8 +163,8 @@ module _ (g : List Class) (ok : IsClassList g) (c : ℕ) (bs : List Base) (new :
 
     to : (y : Option Access) → WaysBy g c (take n bs) (get_or (new_subobjects g c bs) i []) y ⊎ WaysIn g c b m (get_or (new_subobjects g c bs) i []) y
         → WaysBy g c (take (n + 1) bs) (get_or (new_subobjects g c bs) i []) y
-    to y (inl w) = (w.0, w.1, subst (λ z. Has z w.0) (sym more) (Rattle.mm_classes.proofs.Lists.Has-left (take n bs) (b ∷ []) w.2), w.3, w.4, w.5)
-    to y (inr w) = (b, w.0, subst (λ z. Has z b) (sym more) (Rattle.mm_classes.proofs.Lists.Has-right (take n bs) (b ∷ []) (first refl)), w.3, ap (compose (link_of c b)) w.4 ∙ w.5, w.6)
+    to y (inl w) = (w.0, w.1, subst (λ z. Has z w.0) (sym more) (Has-left (take n bs) (b ∷ []) w.2), w.3, w.4, w.5)
+    to y (inr w) = (b, w.0, subst (λ z. Has z b) (sym more) (Has-right (take n bs) (b ∷ []) (first refl)), w.3, ap (compose (link_of c b)) w.4 ∙ w.5, w.6)
 
     through_b : (y : Option Access) (rest : List Base) → AreLinks g b.class rest → composed_links c (b ∷ rest) ≡ get_or (new_subobjects g c bs) i [] → access_along (b ∷ rest) (Some Public) ≡ y
         → WaysIn g c b m (get_or (new_subobjects g c bs) i []) y
@@ -183,6 +183,9 @@ module _ (g : List Class) (ok : IsClassList g) (c : ℕ) (bs : List Base) (new :
         | later k ↦ elim k [ ]
       ]
     ]
+
+  pub starts_as_long : (shared starts : List ℕ) → shared ≡ new_virtual_bases g bs → starts ≡ new_starts g c bs → length starts ≡ length shared
+  starts_as_long shared starts es et = ap length et ∙ (starts-long (chains g (length g)) (length (new_chains g c bs)) (new_virtual_bases g bs) ∙ sym (ap length es))
 
   -- no way yet
   pub greatest_first : (xs : List (Option Access)) → ((i : ℕ) → get_or xs i None ≡ None) → AreGreatest g c bs 0 xs
@@ -227,7 +230,7 @@ module _ (g : List Class) (ok : IsClassList g) (c : ℕ) (bs : List Base) (new :
         reached_at (get_or (new_subobjects g c bs) i []) (get_or xs i None)
         (λ e. ne (new-one i 0 l (subst (λ (z : List Path). 0 < length z) subs f.1) (e ∙ sym zero_is)))
         (sub_links (added g c bs []) valid c (get_or (new_subobjects g c bs) i [])
-        (subst (λ (z : List Path). Rattle.mm_classes.specs.Subobjects.IsSubobject (added g c bs []) c (get_or z i [])) subs (node_sub (added g c bs []) valid c i (subst (λ (z : List Path). i < length z) (sym subs) l))))
+        (subst (λ (z : List Path). IsSubobject (added g c bs []) c (get_or z i [])) subs (node_sub (added g c bs []) valid c i (subst (λ (z : List Path). i < length z) (sym subs) l))))
         (subst (λ (z : List Base). IsGreatestOf (WaysBy g c z (get_or (new_subobjects g c bs) i [])) (get_or xs i None)) (take_all (length bs) bs (omega arith)) (h i l))
 
     pub all_reached : HaveAccess (added g c bs []) c (set xs 0 (Some Public))
@@ -270,5 +273,83 @@ module _ (g : List Class) (ok : IsClassList g) (c : ℕ) (bs : List Base) (new :
           ∙ (starts-at (chains (added g c bs []) (length (added g c bs []))) (length (chains (added g c bs []) (length (added g c bs [])) c)) (virtual_bases (added g c bs []) c) j lj
           ∙ (let z = o.3 in let q : start_of (added g c bs []) c j ≡ length o.0 + 0 = omega arith in q)) in (
         (let z = r.0 in let y = ap length (sym subs ∙ o.2) in omega arith),
-        ap (get_or (new_subobjects g c bs)) s Rattle.std.proofs.Common.$$ []
+        ap (λ n. get_or (new_subobjects g c bs) n []) s ∙ (ap (λ (z : List Path). get_or z (length o.0 + 0) []) (sym subs ∙ o.2)
+            ∙ (r.1 ∙ (ap (λ (z : List Path). get_or z 0 []) u ∙ sym (link_shared c b e)))),
       )
+
+  -- the first subobject of a base that is not virtual
+  module _ (n : ℕ) (b : Base) (eb : b ≡ get_or bs n b) (l : n < length bs) where
+    Front : List Path
+    Front = (c ∷ []) ∷ flat_map (λ (x : Base). plain_block c x (chains g (length g) x.class)) (take n bs)
+
+    front_is : new_chains g c (take n bs) ≡ Front
+    unfolding Front
+    front_is = ap (λ (ps : List Path). (c ∷ []) ∷ ps) (plain_blocks c (chains g (length g)) (take n bs))
+
+    split : (r : List Path) × (new_subobjects g c bs ≡ Front ++ (plain_block c b (chains g (length g) b.class) ++ r))
+    unfolding Front
+    split =
+        let pb = plain_block c b (chains g (length g) b.class) in
+        let r = flat_map (λ (x : Base). plain_block c x (chains g (length g) x.class)) (drop (n + 1) bs) in
+        let more = flat_map (chains g (length g)) (new_virtual_bases g bs) in
+        let f = flat_map (λ (x : Base). plain_block c x (chains g (length g) x.class)) (take n bs) in
+        let e : new_chains g c bs ≡ (c ∷ []) ∷ (f ++ (pb ++ r)) =
+            ap (λ (ps : List Path). (c ∷ []) ∷ ps) (plain_blocks c (chains g (length g)) bs ∙ flat_map-split (λ (x : Base). plain_block c x (chains g (length g) x.class)) bs n b eb l) in
+        (r ++ more, ap (λ (ps : List Path). ps ++ more) e ∙ (ap (λ (ps : List Path). (c ∷ []) ∷ ps) (append_assoc f (pb ++ r) more ∙ ap (λ ps. f ++ ps) (append_assoc pb r more))))
+
+    pub link_plain_at : (plain : ℕ) → b.shared ≡ false → plain ≡ length (new_chains g c (take n bs))
+        → (plain < length (new_subobjects g c bs)) × (get_or (new_subobjects g c bs) plain [] ≡ link_of c b)
+    link_plain_at plain e ep =
+        let xs = chains g (length g) b.class in
+        let u = first_of_class b.class in
+        let pb : plain_block c b xs ≡ map (λ p. c ∷ p) xs = ap (λ s. cond s [] (map (λ p. c ∷ p) xs)) e in
+        let lp = ap length pb in
+        let lm = length-map xs (λ p. c ∷ p) in
+        let r = read_at Front (plain_block c b xs) split.0 0 [] (let z = u.1 in omega arith) in
+        let at : plain ≡ length Front + 0 = (let z = ap length front_is in omega arith) in (
+          (let z = r.0 in let y = ap length split.1 in omega arith),
+          ap (λ k. get_or (new_subobjects g c bs) k []) at ∙ (ap (λ (z : List Path). get_or z (length Front + 0) []) split.1
+              ∙ (r.1 ∙ (ap (λ (z : List Path). get_or z 0 []) pb ∙ (get_or-map (λ p. c ∷ p) xs 0 [] [] u.1 ∙ (ap (λ (p : Path). c ∷ p) u.0 ∙ sym (link_plain c b e)))))),
+        )
+
+    -- the bases before have no more nodes than the class
+    pub plain_low : (plain : ℕ) → plain ≡ length (new_chains g c (take n bs)) → plain ≤ length (new_subobjects g c bs)
+    plain_low plain ep =
+        let a = ap length front_is in
+        let b' = ap length split.1 in
+        let d = length-append Front (plain_block c b (chains g (length g) b.class) ++ split.0) in omega arith
+
+    pub plain_more : (plain own : ℕ) → b.shared ≡ false → plain ≡ length (new_chains g c (take n bs)) → own ≡ length (chains g (length g) b.class)
+        → plain + own ≡ length (new_chains g c (take (n + 1) bs))
+    plain_more plain own e ep eo =
+        let xs = chains g (length g) b.class in
+        let m = ap length (own_more g c bs n b eb l xs refl (new_chains g c (take n bs)) (new_chains g c (take n bs) ++ plain_block c b xs) refl refl) in
+        let a = length-append (new_chains g c (take n bs)) (plain_block c b xs) in
+        let pb = ap (λ s. length (cond s [] (map (λ p. c ∷ p) xs))) e in
+        let lm = length-map xs (λ p. c ∷ p) in omega arith
+
+    pub plain_same : (plain : ℕ) → b.shared ≡ true → plain ≡ length (new_chains g c (take n bs)) → plain ≡ length (new_chains g c (take (n + 1) bs))
+    plain_same plain e ep =
+        let xs = chains g (length g) b.class in
+        let m = ap length (own_more g c bs n b eb l xs refl (new_chains g c (take n bs)) (new_chains g c (take n bs) ++ plain_block c b xs) refl refl) in
+        let a = length-append (new_chains g c (take n bs)) (plain_block c b xs) in
+        let pb = ap (λ s. length (cond s [] (map (λ p. c ∷ p) xs))) e in omega arith
+
+    pub plain_next : (plain next : ℕ) → plain ≡ length (new_chains g c (take n bs)) → (b.shared ≡ true → next ≡ plain) → (b.shared ≡ false → next ≡ plain + length (chains g (length g) b.class))
+        → next ≡ length (new_chains g c (take (n + 1) bs))
+    plain_next plain next ep same more = elim b.shared as (λ s. b.shared ≡ s → next ≡ length (new_chains g c (take (n + 1) bs))) [
+      | true ↦ λ e. same e ∙ plain_same plain e ep
+      | false ↦ λ e. more e ∙ plain_more plain (length (chains g (length g) b.class)) e ep refl
+    ] refl
+
+    pub link_here : (at plain : ℕ) (shared starts : List ℕ) → shared ≡ new_virtual_bases g bs → starts ≡ new_starts g c bs → plain ≡ length (new_chains g c (take n bs))
+        → (b.shared ≡ true → (j : ℕ) × (j < length shared) × (get_or shared j 0 ≡ b.class) × (at ≡ get_or starts j 0)) → (b.shared ≡ false → at ≡ plain)
+        → (at < length (new_subobjects g c bs)) × (get_or (new_subobjects g c bs) at [] ≡ link_of c b)
+    link_here at plain shared starts es et ep begun else = elim b.shared as (λ s. b.shared ≡ s → (at < length (new_subobjects g c bs)) × (get_or (new_subobjects g c bs) at [] ≡ link_of c b)) [
+      | true ↦ λ e. (let t = begun e in
+          let r = link_at_start b t.0 e (subst (λ (z : List ℕ). t.0 < length z) es t.1) (ap (λ (z : List ℕ). get_or z t.0 0) (sym es) ∙ t.2) in
+          let at_is : get_or (new_starts g c bs) t.0 0 ≡ at = sym (t.3 ∙ ap (λ (z : List ℕ). get_or z t.0 0) et) in
+          subst (λ k. (k < length (new_subobjects g c bs)) × (get_or (new_subobjects g c bs) k [] ≡ link_of c b)) at_is r)
+      | false ↦ λ e. (let r = link_plain_at plain e ep in
+          subst (λ k. (k < length (new_subobjects g c bs)) × (get_or (new_subobjects g c bs) k [] ≡ link_of c b)) (sym (else e)) r)
+    ] refl

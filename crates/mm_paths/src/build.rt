@@ -5,7 +5,7 @@ ghost use Rattle.std.specs.List.{flat_map};
 ghost use Rattle.std.specs.Bool.{Decides};
 ghost use Rattle.mm_classes.specs.declared.class.Base.{Base};
 ghost use Rattle.mm_classes.specs.Lists.{Has, with_new, with_all_new};
-ghost use Rattle.mm_classes.specs.Classes.{IsComplete, IsPolymorphic, field_count};
+ghost use Rattle.mm_classes.specs.Classes.{IsClassList, IsComplete, IsPolymorphic, field_count};
 ghost use Rattle.mm_classes.specs.Subobjects.{Path, met, chains};
 ghost use Rattle.mm_classes.specs.Adding.{new_virtual_bases, new_chains, new_subobjects, new_depth, IsNewPolymorphic, AreKnown, AreDeclared, CanAdd};
 ghost use Rattle.mm_paths.specs.Ends.{plain_block, classes_of, AreFine, Stops};
@@ -98,7 +98,8 @@ pub fn push_block(
         if nodes.len() >= 256 {
             return Err(MakeEnd::Many);
         }
-        nodes.push(joined_node(alloc, front, from[k].path.as_slice())?)?;
+        let node = joined_node(alloc, front, from[k].path.as_slice())?;
+        nodes.push(node).map_err(AllocError::from)?;
         k += 1;
     }
     Ok(())
@@ -135,7 +136,8 @@ pub fn new_own(
     ensures many { IfErr result (λ end. end ≡ MakeEnd.Many → 256 < length (new_chains graph.now class bases.now)) }
 {
     let mut nodes = Vec::new(alloc);
-    nodes.push(joined_node(alloc, &[class], &[])?)?;
+    let node = joined_node(alloc, &[class], &[])?;
+    nodes.push(node).map_err(AllocError::from)?;
     let mut n = 0;
     while n < bases.len() {
         let base = bases[n];
@@ -162,7 +164,7 @@ pub fn push_shared(
     let mut starts = Vec::new(alloc);
     let mut n = 0;
     while n < shared.len() {
-        starts.push(nodes.len())?;
+        starts.push(nodes.len()).map_err(AllocError::from)?;
         push_block(alloc, nodes, &[], graph.own(shared[n]))?;
         n += 1;
     }
@@ -219,6 +221,7 @@ pub fn new_nodes(
     class: ClassId,
     bases: &[Base],
 ) -> Result<Nodes, MakeEnd>
+    requires valid { IsClassList graph.now }
     requires known { AreKnown graph.now bases.now }
     ensures nodes { IfOk result (λ r. paths_in r.all.items ≡ new_subobjects graph.now class bases.now) }
     ensures few { IfOk result (λ r. length r.all.items ≤ 256) }
@@ -247,7 +250,8 @@ pub fn make(
     bases: &[Base],
     members: &[Member],
 ) -> Result<Parts, MakeEnd>
-    requires { CanAdd graph.now class bases.now members.now }
+    requires valid { IsClassList graph.now }
+    requires can { CanAdd graph.now class bases.now members.now }
     ensures made { IfOk result (AreNewParts graph.now class bases.now members.now) }
     ensures many { IfErr result (λ end. end ≡ MakeEnd.Many → (256 < length (new_subobjects graph.now class bases.now)) ⊎ (2 ^ 19 < field_count members.now)) }
 {

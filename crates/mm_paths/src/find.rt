@@ -1,6 +1,6 @@
 //! Searches among the nodes of a class.
 
-ghost use Rattle.std.specs.Prelude.{◌≡◌, ◌<◌, ◌≤◌, ◌^◌, ℕ, length, get_or};
+ghost use Rattle.std.specs.Prelude.{◌≡◌, ◌<◌, ◌≤◌, ◌-◌, ◌^◌, ℕ, length, get_or, MatchOption};
 ghost use Rattle.std.specs.Bool.{Decides};
 ghost use Rattle.mm_classes.specs.Lists.{Has};
 ghost use Rattle.mm_classes.specs.Subobjects.{end_of};
@@ -38,6 +38,19 @@ pub fn node_id(place: usize) -> NodeId
     NodeId {
         number: place as u32,
     }
+}
+
+/// How far a number lies behind another, where that is less than a bound.
+pub fn close_by(t: NodeId, s: NodeId, bound: usize) -> Option<NodeId>
+    ensures { MatchOption result (t ≤ s → bound ≤ s - t) (λ m. (t ≤ s) × (m ≡ s - t) × (m < bound)) }
+{
+    if t.number <= s.number {
+        let m = s.number - t.number;
+        if (m as usize) < bound {
+            return Some(NodeId { number: m });
+        }
+    }
+    None
 }
 
 /// The answer so far, with one more number that fits or not.

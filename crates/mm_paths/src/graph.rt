@@ -14,7 +14,7 @@ ghost use Rattle.mm_paths.specs.Stored.{paths_in, ArePartsOf, HaveAccess, IsStar
 
 use crate::build::{look, make, no_parts};
 use crate::entry::{GraphEnd, MakeEnd, Node, Parts};
-use crate::find::{among, as_around, node_id, path_end, pick, start_among};
+use crate::find::{among, as_around, close_by, node_id, path_end, pick, start_among};
 use crate::reach::place_in;
 use mm_base::code::NoMemory;
 use mm_class_table::table::ClassTable;
@@ -137,7 +137,9 @@ impl Graph {
     // What is kept of the class.
     fn parts_of(&self, c: ClassId) -> &Parts
         requires { IsComplete self.now c }
-        ensures { ArePartsOf self.now c result.now }
+        ensures parts { ArePartsOf self.now c result.now }
+        ensures valid { IsClassList self.now }
+        ensures count { length self.now < 2 ^ 32 }
     {
         &self.parts[c.number as usize]
     }
@@ -197,6 +199,8 @@ impl Graph {
         requires { IsComplete self.now c }
         ensures count { result ≡ length (chains self.now (length self.now) c) }
         ensures few { result ≤ 256 }
+        ensures all { length (subobjects_of self.now c) ≤ 256 }
+        ensures valid { IsClassList self.now }
     {
         self.parts_of(c).own
     }
@@ -288,8 +292,9 @@ impl Graph {
         ensures path { composed (node self.now d t) (node self.now (end_of (node self.now d t)) result) ≡ node self.now d s }
     {
         let class = self.class_of(d, t);
-        if t.number <= s.number && ((s.number - t.number) as usize) < self.own_count(class) {
-            return NodeId { number: s.number - t.number };
+        let own = self.own_count(class);
+        if let Some(m) = close_by(t, s, own) {
+            return m;
         }
         let head = self.path(d, s)[0];
         let from = self.start(d, head);
@@ -305,7 +310,8 @@ impl Graph {
         ensures { Decides result (IsWithin self.now (node self.now d s) (node self.now d t)) }
     {
         let class = self.class_of(d, t);
-        if t.number <= s.number && ((s.number - t.number) as usize) < self.own_count(class) {
+        let own = self.own_count(class);
+        if let Some(_m) = close_by(t, s, own) {
             return true;
         }
         among(self.virtual_bases(class), self.path(d, s)[0])

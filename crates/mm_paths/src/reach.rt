@@ -1,9 +1,11 @@
 //! The access of each subobject of a new class: the greatest over the ways to it.
 
-ghost use Rattle.std.specs.Prelude.{◌≡◌, ◌<◌, ◌≤◌, ◌+◌, ◌^◌, ℕ, [], length, get_or, IfOk};
+ghost use Rattle.std.specs.Prelude.{◌≡◌, ◌<◌, ◌≤◌, ◌+◌, ◌^◌, ℕ, [], length, get_or, true, false, None, IfOk};
 ghost use Rattle.mm_classes.specs.Access.{grade, greater, lesser, passed, link_of};
-ghost use Rattle.mm_classes.specs.Classes.{IsComplete};
+ghost use Rattle.mm_classes.specs.Lists.{Has};
+ghost use Rattle.mm_classes.specs.Classes.{IsClassList, IsComplete};
 ghost use Rattle.mm_classes.specs.Questions.{IsNode};
+ghost use Rattle.mm_classes.specs.Subobjects.{chains};
 ghost use Rattle.mm_classes.specs.Adding.{added, CanAdd, new_subobjects, new_virtual_bases};
 ghost use Rattle.mm_paths.specs.Ends.{base_at};
 ghost use Rattle.mm_paths.specs.Stored.{paths_in, new_starts, HaveAccess};
@@ -72,7 +74,9 @@ pub fn place_in(
     requires complete { IsComplete graph.now part }
     requires node { IsNode graph.now part m }
     requires starts { AreStarts graph.now part m shared.now starts.now }
-    requires low { at ≤ 256 }
+    requires valid { IsClassList graph.now }
+    requires low { at < 2 ^ 32 }
+    requires small { m < 2 ^ 32 }
     ensures { IsPlaced graph.now part at m shared.now starts.now result }
 {
     if m < graph.own_count(part) {
@@ -94,6 +98,7 @@ pub fn raise_base(
     nodes: &Nodes,
     all: &mut Vec<Option<Access>>,
 )
+    requires valid { IsClassList graph.now }
     requires can { CanAdd graph.now class bases.now [] }
     requires base { n < length bases.now }
     requires nodes { paths_in nodes.now.all.items ≡ new_subobjects graph.now class bases.now }
@@ -119,12 +124,43 @@ pub fn raise_base(
 
 /// The number of the node that a base is: that of its virtual base, or the next one that begins with the class.
 pub fn link_place(base: &Base, plain: usize, nodes: &Nodes) -> usize
+    requires has { base.now.shared ≡ true → Has nodes.now.shared.items base.now.class }
+    requires long { length nodes.now.starts.items ≡ length nodes.now.shared.items }
+    ensures shared { base.now.shared ≡ true → (j : ℕ) × (j < length nodes.now.shared.items) × (get_or nodes.now.shared.items j 0 ≡ base.now.class) × (result ≡ get_or nodes.now.starts.items j 0) }
+    ensures plain { base.now.shared ≡ false → result ≡ plain }
 {
     if base.shared {
         start_among(nodes.shared.as_slice(), nodes.starts.as_slice(), base.class)
     } else {
         plain
     }
+}
+
+/// The number of the next base's node, where it begins with the class.
+pub fn next_plain(graph: &Graph, base: &Base, plain: usize) -> usize
+    requires complete { IsComplete graph.now base.now.class }
+    requires low { plain ≤ 256 }
+    ensures shared { base.now.shared ≡ true → result ≡ plain }
+    ensures plain { base.now.shared ≡ false → result ≡ plain + length (chains graph.now (length graph.now) base.now.class) }
+{
+    if base.shared {
+        return plain;
+    }
+    plain + graph.own_count(base.class)
+}
+
+/// No access, for each of some nodes.
+pub fn no_access(alloc: Global, count: usize) -> Result<Vec<Option<Access>>, AllocError>
+    ensures count { IfOk result (λ v. length v.items ≡ count) }
+    ensures none { IfOk result (λ v. (i : ℕ) → get_or v.items i None ≡ None) }
+{
+    let mut all = Vec::with_capacity(alloc, count)?;
+    let mut k = 0;
+    while k < count {
+        all.push(None)?;
+        k += 1;
+    }
+    Ok(all)
 }
 
 /// The access of each node of a new class.
@@ -135,6 +171,7 @@ pub fn new_access(
     bases: &[Base],
     nodes: &Nodes,
 ) -> Result<Vec<Option<Access>>, AllocError>
+    requires valid { IsClassList graph.now }
     requires can { CanAdd graph.now class bases.now [] }
     requires nodes { paths_in nodes.now.all.items ≡ new_subobjects graph.now class bases.now }
     requires few { length nodes.now.all.items ≤ 256 }
@@ -142,16 +179,14 @@ pub fn new_access(
     requires starts { nodes.now.starts.items ≡ new_starts graph.now class bases.now }
     ensures { IfOk result (λ v. HaveAccess (added graph.now class bases.now []) class v.items) }
 {
-    let mut all = vec![in alloc; None; nodes.all.len()]?;
+    let mut all = no_access(alloc, nodes.all.len())?;
     let mut plain = 1;
     let mut n = 0;
     while n < bases.len() {
         let base = bases[n];
         let at = link_place(&base, plain, nodes);
         raise_base(graph, class, bases, n, at, nodes, &mut all);
-        if !base.shared {
-            plain += graph.own_count(base.class);
-        }
+        plain = next_plain(graph, &base, plain);
         n += 1;
     }
     all[0] = Some(Access::Public);
