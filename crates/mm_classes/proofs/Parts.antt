@@ -61,16 +61,16 @@ module _ (g : List Class) (ok : IsClassList g) (d t s : ℕ) (ht : IsNode g d t)
             let e = node-one g ok d (t + p.0) s r.0 hs (r.1 ∙ p.1.path) in absurd (omega arith))
         | inr l ↦ far_on p.0 p.1 l
       ] where
-    far_on : (m : ℕ) → IsPart g d t s m → length (chains g (length g) (end_of (node g d t))) ≤ m
-        → (m : ℕ) × IsPart g d t s m × (length (chains g (length g) (end_of (node g d t))) ≤ m) × (get_or (node g (end_of (node g d t)) m) 0 0 ≡ get_or (node g d s) 0 0)
-        × Has (virtual_bases g (end_of (node g d t))) (get_or (node g d s) 0 0) × Has (virtual_bases g d) (get_or (node g d s) 0 0)
-    far_on m q l =
-        let c = end_of (node g d t) in
-        let v = get_or (node g c m) 0 0 in
-        let h = head_virtual g ok d t m v ht q.node_in l (sym (same_read (node g c m) v (sub_long g ok c (node g c m) (node_sub g ok c m q.node_in)))) in
-        let e : v ≡ get_or (node g d s) 0 0 = sym (anew_head (node g d t) (node g c m) (λ z. let f = virtual_falls g ok c v (virtual_bases_are g ok c v h.0) in let y : ok.rank v ≡ ok.rank c = ap ok.rank z in omega arith))
+        far_on : (m : ℕ) → IsPart g d t s m → length (chains g (length g) (end_of (node g d t))) ≤ m
+            → (m : ℕ) × IsPart g d t s m × (length (chains g (length g) (end_of (node g d t))) ≤ m) × (get_or (node g (end_of (node g d t)) m) 0 0 ≡ get_or (node g d s) 0 0)
+            × Has (virtual_bases g (end_of (node g d t))) (get_or (node g d s) 0 0) × Has (virtual_bases g d) (get_or (node g d s) 0 0)
+        far_on m q l =
+            let c = end_of (node g d t) in
+            let v = get_or (node g c m) 0 0 in
+            let h = head_virtual g ok d t m v ht q.node_in l (sym (same_read (node g c m) v (sub_long g ok c (node g c m) (node_sub g ok c m q.node_in)))) in
+            let e : v ≡ get_or (node g d s) 0 0 = sym (anew_head (node g d t) (node g c m) (λ z. let f = virtual_falls g ok c v (virtual_bases_are g ok c v h.0) in let y : ok.rank v ≡ ok.rank c = ap ok.rank z in omega arith))
             ∙ ap (λ z. get_or z 0 0) q.path in
-        (m, q, l, e, subst (Has (virtual_bases g c)) e h.0, subst (Has (virtual_bases g d)) e h.1)
+            (m, q, l, e, subst (Has (virtual_bases g c)) e h.0, subst (Has (virtual_bases g d)) e h.1)
 
   pub far_place : (m j k : ℕ) → IsPart g d t s m → length (chains g (length g) (end_of (node g d t))) ≤ m → get_or (node g (end_of (node g d t)) m) 0 0 ≡ get_or (node g d s) 0 0
       → j < length (virtual_bases g (end_of (node g d t))) → get_or (virtual_bases g (end_of (node g d t))) j 0 ≡ get_or (node g d s) 0 0

@@ -109,7 +109,7 @@ member_name ms k = get_or (map (λ (m : Member). m.name) ms) k []
 abbrev pub IsNextNamed : Option ℕ → List Member → List ℕ → ℕ → Type 0
 IsNextNamed None ms name from = (k : ℕ) → from ≤ k → k < length ms → member_name ms k ≢ name
 IsNextNamed (Some k) ms name from = (from ≤ k) × (k < length ms) × (member_name ms k ≡ name)
-  × ((j : ℕ) → from ≤ j → j < k → member_name ms j ≢ name)
+    × ((j : ℕ) → from ≤ j → j < k → member_name ms j ≢ name)
 
 -- c derives from b: a chain of one or more direct bases leads from c to b (10).
 pub data Derives (g : List Class) : ℕ → ℕ → Type 0 where

@@ -25,7 +25,7 @@ AreSame m x = (m.name ≡ x.name) × AreSameKind m.kind x.kind
 -- in a direct or indirect base (10.3/2).
 abbrev pub IsVirtualIn : List Class → ℕ → Member → Type 0
 IsVirtualIn g c m = (is_virtual m ≡ true)
-  ⊎ ((b : ℕ) × (x : Member) × Derives g c b × Has (members_of g b) x × AreSame m x × (is_virtual x ≡ true))
+    ⊎ ((b : ℕ) × (x : Member) × Derives g c b × Has (members_of g b) x × AreSame m x × (is_virtual x ≡ true))
 
 -- class x has exactly one subobject of class y, which is another class
 abbrev pub IsOnlyBase : List Class → ℕ → ℕ → Type 0

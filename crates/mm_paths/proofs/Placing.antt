@@ -75,7 +75,9 @@ module _ (g : List Class) (ok : IsClassList g) where
         let v = get_or (node g c m) 0 0 in
         let lj : q.1 < length (virtual_bases g d) = subst (λ (z : List ℕ). q.1 < length z) es q.4 in
         let b : IsStart g d v (get_or starts q.1 0) = (
-          q.1, lj, ap (λ (z : List ℕ). get_or z q.1 0) (sym es) ∙ q.5,
+          q.1,
+          lj,
+          ap (λ (z : List ℕ). get_or z q.1 0) (sym es) ∙ q.5,
           ap (λ (z : List ℕ). get_or z q.1 0) et ∙ starts-at (chains g (length g)) (length (chains g (length g) d)) (virtual_bases g d) q.1 lj,
         ) in
         let k = composed_anew g ok d n m c hn hm ec (length (chains g (length g) c)) v q.0 (get_or starts q.1 0) (node g c m) refl l refl (sym (head_of_node c m v h)) q.2 b in
@@ -94,11 +96,11 @@ module _ (g g' : List Class) (ok : IsClassList g) (longer : length g ≤ length 
   start-kept c v s k a =
       let vs : virtual_bases g' c ≡ virtual_bases g c = virtual_bases-kept g g' ok longer same c k in
       let blocks : flat_map (chains g' (length g')) (take a.0 (virtual_bases g c)) ≡ flat_map (chains g (length g)) (take a.0 (virtual_bases g c)) =
-          flat_map-same (chains g' (length g')) (chains g (length g)) (take a.0 (virtual_bases g c))
-          (λ w h. chains-all_kept g g' ok longer same w (virtual_bases_complete g ok c w (has_take (virtual_bases g c) a.0 h))) in
+      flat_map-same (chains g' (length g')) (chains g (length g)) (take a.0 (virtual_bases g c))
+      (λ w h. chains-all_kept g g' ok longer same w (virtual_bases_complete g ok c w (has_take (virtual_bases g c) a.0 h))) in
       let own : length (chains g' (length g') c) ≡ length (chains g (length g) c) = ap length (chains-all_kept g g' ok longer same c k) in
       let all : start_of g' c a.0 ≡ start_of g c a.0 = ap₂ (λ (x : ℕ) (y : List Path). x + length y) own
-          (ap (λ (z : List ℕ). flat_map (chains g' (length g')) (take a.0 z)) vs ∙ blocks) in
+      (ap (λ (z : List ℕ). flat_map (chains g' (length g')) (take a.0 z)) vs ∙ blocks) in
       (a.0, subst (λ (z : List ℕ). a.0 < length z) (sym vs) a.1, ap (λ (z : List ℕ). get_or z a.0 0) vs ∙ a.2, a.3 ∙ sym all)
 
   pub placed-kept : (c at m r : ℕ) (shared starts : List ℕ) → (class_at g c).complete ≡ true → IsPlaced g c at m shared starts r → IsPlaced g' c at m shared starts r

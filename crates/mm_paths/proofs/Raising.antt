@@ -158,31 +158,31 @@ module _ (g : List Class) (ok : IsClassList g) (c : ℕ) (bs : List Base) (new :
   with_all n b m xs eb l em h i li = greatest-like
       (λ y. WaysBy g c (take n bs) (get_or (new_subobjects g c bs) i []) y ⊎ WaysIn g c b m (get_or (new_subobjects g c bs) i []) y)
       (WaysBy g c (take (n + 1) bs) (get_or (new_subobjects g c bs) i [])) (get_or xs i None) to from (h i li) where
-    more : take (n + 1) bs ≡ take n bs ++ b ∷ []
-    more = take_at_more bs n b eb l
+        more : take (n + 1) bs ≡ take n bs ++ b ∷ []
+        more = take_at_more bs n b eb l
 
-    to : (y : Option Access) → WaysBy g c (take n bs) (get_or (new_subobjects g c bs) i []) y ⊎ WaysIn g c b m (get_or (new_subobjects g c bs) i []) y
-        → WaysBy g c (take (n + 1) bs) (get_or (new_subobjects g c bs) i []) y
-    to y (inl w) = (w.0, w.1, subst (λ z. Has z w.0) (sym more) (Has-left (take n bs) (b ∷ []) w.2), w.3, w.4, w.5)
-    to y (inr w) = (b, w.0, subst (λ z. Has z b) (sym more) (Has-right (take n bs) (b ∷ []) (first refl)), w.3, ap (compose (link_of c b)) w.4 ∙ w.5, w.6)
+        to : (y : Option Access) → WaysBy g c (take n bs) (get_or (new_subobjects g c bs) i []) y ⊎ WaysIn g c b m (get_or (new_subobjects g c bs) i []) y
+            → WaysBy g c (take (n + 1) bs) (get_or (new_subobjects g c bs) i []) y
+        to y (inl w) = (w.0, w.1, subst (λ z. Has z w.0) (sym more) (Has-left (take n bs) (b ∷ []) w.2), w.3, w.4, w.5)
+        to y (inr w) = (b, w.0, subst (λ z. Has z b) (sym more) (Has-right (take n bs) (b ∷ []) (first refl)), w.3, ap (compose (link_of c b)) w.4 ∙ w.5, w.6)
 
-    through_b : (y : Option Access) (rest : List Base) → AreLinks g b.class rest → composed_links c (b ∷ rest) ≡ get_or (new_subobjects g c bs) i [] → access_along (b ∷ rest) (Some Public) ≡ y
-        → WaysIn g c b m (get_or (new_subobjects g c bs) i []) y
-    through_b y rest k e a =
-        let r = place_from_Has (subobjects_of g b.class) [] (are_subobjects g ok b.class (composed_links b.class rest) (links_sub g b.class rest k)) in
-        let z = r.1 in
-        (rest, r.0, omega arith, k, sym r.2, ap (compose (link_of c b)) r.2 ∙ e, a)
+        through_b : (y : Option Access) (rest : List Base) → AreLinks g b.class rest → composed_links c (b ∷ rest) ≡ get_or (new_subobjects g c bs) i [] → access_along (b ∷ rest) (Some Public) ≡ y
+            → WaysIn g c b m (get_or (new_subobjects g c bs) i []) y
+        through_b y rest k e a =
+            let r = place_from_Has (subobjects_of g b.class) [] (are_subobjects g ok b.class (composed_links b.class rest) (links_sub g b.class rest k)) in
+            let z = r.1 in
+            (rest, r.0, omega arith, k, sym r.2, ap (compose (link_of c b)) r.2 ∙ e, a)
 
-    from : (y : Option Access) → WaysBy g c (take (n + 1) bs) (get_or (new_subobjects g c bs) i []) y
-        → WaysBy g c (take n bs) (get_or (new_subobjects g c bs) i []) y ⊎ WaysIn g c b m (get_or (new_subobjects g c bs) i []) y
-    from y w = elim (Has-append (take n bs) (b ∷ []) (subst (λ z. Has z w.0) more w.2)) [
-      | inl a ↦ inl (w.0, w.1, a, w.3, w.4, w.5)
-      | inr a ↦ elim a [
-        | first e ↦ inr (subst (λ (x : Base). AreLinks g x.class w.1 → composed_links c (x ∷ w.1) ≡ get_or (new_subobjects g c bs) i [] → access_along (x ∷ w.1) (Some Public) ≡ y
-            → WaysIn g c b m (get_or (new_subobjects g c bs) i []) y) e (through_b y w.1) w.3 w.4 w.5)
-        | later k ↦ elim k [ ]
-      ]
-    ]
+        from : (y : Option Access) → WaysBy g c (take (n + 1) bs) (get_or (new_subobjects g c bs) i []) y
+            → WaysBy g c (take n bs) (get_or (new_subobjects g c bs) i []) y ⊎ WaysIn g c b m (get_or (new_subobjects g c bs) i []) y
+        from y w = elim (Has-append (take n bs) (b ∷ []) (subst (λ z. Has z w.0) more w.2)) [
+          | inl a ↦ inl (w.0, w.1, a, w.3, w.4, w.5)
+          | inr a ↦ elim a [
+            | first e ↦ inr (subst (λ (x : Base). AreLinks g x.class w.1 → composed_links c (x ∷ w.1) ≡ get_or (new_subobjects g c bs) i [] → access_along (x ∷ w.1) (Some Public) ≡ y
+                → WaysIn g c b m (get_or (new_subobjects g c bs) i []) y) e (through_b y w.1) w.3 w.4 w.5)
+            | later k ↦ elim k [ ]
+          ]
+        ]
 
   pub starts_as_long : (shared starts : List ℕ) → shared ≡ new_virtual_bases g bs → starts ≡ new_starts g c bs → length starts ≡ length shared
   starts_as_long shared starts es et = ap length et ∙ (starts-long (chains g (length g)) (length (new_chains g c bs)) (new_virtual_bases g bs) ∙ sym (ap length es))
@@ -208,7 +208,8 @@ module _ (g : List Class) (ok : IsClassList g) (c : ℕ) (bs : List Base) (new :
     by_way q y w = (
       w.0 ∷ w.1,
       (subst (λ z. Has z w.0) (sym bases_are) w.2, to_links g (added g c bs []) ok same_old w.0.class w.1 (new.known w.0 w.2) w.3),
-      w.4, w.5,
+      w.4,
+      w.5,
     )
 
     reached_at : (q : Path) (x : Option Access) → q ≢ c ∷ [] → (ls : List Base) × AreLinks (added g c bs []) c ls × (composed_links c ls ≡ q) → IsGreatestOf (WaysBy g c bs q) x
@@ -269,9 +270,9 @@ module _ (g : List Class) (ok : IsClassList g) (c : ℕ) (bs : List Base) (new :
       let u = chains-unfold (added g c bs []) valid b.class in
       let r = read_at o.0 (chains (added g c bs []) (length (added g c bs [])) b.class) o.1 0 [] (let z = ap length u in omega arith) in
       let s : get_or (new_starts g c bs) j 0 ≡ length o.0 + 0 =
-          ap (λ z. get_or z j 0) (sym (new_starts_are g ok c bs [] new))
-          ∙ (starts-at (chains (added g c bs []) (length (added g c bs []))) (length (chains (added g c bs []) (length (added g c bs [])) c)) (virtual_bases (added g c bs []) c) j lj
-          ∙ (let z = o.3 in let q : start_of (added g c bs []) c j ≡ length o.0 + 0 = omega arith in q)) in (
+      ap (λ z. get_or z j 0) (sym (new_starts_are g ok c bs [] new))
+      ∙ (starts-at (chains (added g c bs []) (length (added g c bs []))) (length (chains (added g c bs []) (length (added g c bs [])) c)) (virtual_bases (added g c bs []) c) j lj
+      ∙ (let z = o.3 in let q : start_of (added g c bs []) c j ≡ length o.0 + 0 = omega arith in q)) in (
         (let z = r.0 in let y = ap length (sym subs ∙ o.2) in omega arith),
         ap (λ n. get_or (new_subobjects g c bs) n []) s ∙ (ap (λ (z : List Path). get_or z (length o.0 + 0) []) (sym subs ∙ o.2)
             ∙ (r.1 ∙ (ap (λ (z : List Path). get_or z 0 []) u ∙ sym (link_shared c b e)))),
@@ -294,7 +295,7 @@ module _ (g : List Class) (ok : IsClassList g) (c : ℕ) (bs : List Base) (new :
         let more = flat_map (chains g (length g)) (new_virtual_bases g bs) in
         let f = flat_map (λ (x : Base). plain_block c x (chains g (length g) x.class)) (take n bs) in
         let e : new_chains g c bs ≡ (c ∷ []) ∷ (f ++ (pb ++ r)) =
-            ap (λ (ps : List Path). (c ∷ []) ∷ ps) (plain_blocks c (chains g (length g)) bs ∙ flat_map-split (λ (x : Base). plain_block c x (chains g (length g) x.class)) bs n b eb l) in
+        ap (λ (ps : List Path). (c ∷ []) ∷ ps) (plain_blocks c (chains g (length g)) bs ∙ flat_map-split (λ (x : Base). plain_block c x (chains g (length g) x.class)) bs n b eb l) in
         (r ++ more, ap (λ (ps : List Path). ps ++ more) e ∙ (ap (λ (ps : List Path). (c ∷ []) ∷ ps) (append_assoc f (pb ++ r) more ∙ ap (λ ps. f ++ ps) (append_assoc pb r more))))
 
     pub link_plain_at : (plain : ℕ) → b.shared ≡ false → plain ≡ length (new_chains g c (take n bs))

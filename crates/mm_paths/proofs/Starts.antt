@@ -63,7 +63,7 @@ starts-low g d j few = elim (low_or j (length (virtual_bases g d))) [
       let vs = virtual_bases g d in
       let s : get_or (starts_of g d) j 0 ≡ length (f d) + length (flat_map f (take j vs)) = starts-at f (length (f d)) vs j l in
       let e : length (flat_map f vs) ≡ length (flat_map f (take j vs)) + length (flat_map f (drop j vs)) =
-          ap (λ z. length (flat_map f z)) (sym (take-append-drop j vs)) ∙ (ap length (flat_map-append f (take j vs) (drop j vs)) ∙ length-append (flat_map f (take j vs)) (flat_map f (drop j vs))) in
+      ap (λ z. length (flat_map f z)) (sym (take-append-drop j vs)) ∙ (ap length (flat_map-append f (take j vs) (drop j vs)) ∙ length-append (flat_map f (take j vs)) (flat_map f (drop j vs))) in
       let a : length (subobjects_of g d) ≡ length (f d) + length (flat_map f vs) = length-append (f d) (flat_map f vs) in omega arith)
   | inr l ↦ (
       let k = starts-long (chains g (length g)) (length (chains g (length g) d)) (virtual_bases g d) in

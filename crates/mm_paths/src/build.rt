@@ -54,11 +54,7 @@ pub fn push_base(seen: &mut Vec<ClassId>, base: &Base, more: &[ClassId]) -> Resu
 }
 
 /// The virtual bases of a class with these bases.
-pub fn new_shared(
-    alloc: Global,
-    graph: &Graph,
-    bases: &[Base],
-) -> Result<Vec<ClassId>, AllocError>
+pub fn new_shared(alloc: Global, graph: &Graph, bases: &[Base]) -> Result<Vec<ClassId>, AllocError>
     requires known { AreKnown graph.now bases.now }
     ensures { IfOk result (λ v. v.items ≡ new_virtual_bases graph.now bases.now) }
 {

@@ -69,7 +69,11 @@ impl Graph {
     pub fn into_table(self) -> ClassTable
         ensures { result ≡ self }
     {
-        let Graph { alloc: _, table, parts: _ } = self;
+        let Graph {
+            alloc: _,
+            table,
+            parts: _,
+        } = self;
         table
     }
 
@@ -279,7 +283,14 @@ impl Graph {
         let whole = self.parts_of(d);
         let part = self.class_of(d, n);
         let (at, m) = (n.number as usize, m.number as usize);
-        node_id(place_in(self, part, at, m, whole.shared.as_slice(), whole.starts.as_slice()))
+        node_id(place_in(
+            self,
+            part,
+            at,
+            m,
+            whole.shared.as_slice(),
+            whole.starts.as_slice(),
+        ))
     }
 
     /// The subobject of the class of `t` that `s`, which `t` contains, is in `t`.
@@ -397,7 +408,12 @@ impl Graph {
     }
 
     /// Completes a class.
-    pub fn add(&mut self, class: ClassId, bases: &[Base], members: &[Member]) -> Result<(), GraphEnd>
+    pub fn add(
+        &mut self,
+        class: ClassId,
+        bases: &[Base],
+        members: &[Member],
+    ) -> Result<(), GraphEnd>
         requires here { class < length self.old }
         requires open { (class_at self.old class).complete ≡ false }
         requires declared { AreDeclared self.old bases.now }

@@ -116,7 +116,14 @@ pub fn raise_base(
     let accesses = graph.accesses(base.class);
     let mut k = 0;
     while k < accesses.len() {
-        let to = place_in(graph, base.class, at, k, nodes.shared.as_slice(), nodes.starts.as_slice());
+        let to = place_in(
+            graph,
+            base.class,
+            at,
+            k,
+            nodes.shared.as_slice(),
+            nodes.starts.as_slice(),
+        );
         all[to] = greater_of(all[to], passed_by(base.access, accesses[k]));
         k += 1;
     }

@@ -2,7 +2,6 @@ use Rattle.std.proofs.Common.{arith, refl, subst, sym, ◌∙◌, ◌≡◌}
 use Rattle.std.specs.Prelude.{true, false}
 use Rattle.mm_classes.specs.Lists.{Has}
 use Rattle.mm_classes.proofs.Answering.{Has-get_or}
-
 use Rattle.mm_paths.proofs.Building.{known_at, none_polymorphic, never_polymorphic}
 use Rattle.mm_paths.proofs.build.any_polymorphic.Goals as goal
 

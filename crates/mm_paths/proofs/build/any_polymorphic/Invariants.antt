@@ -2,7 +2,6 @@ use Rattle.std.proofs.Common.{length, take, ◌-◌, ◌≤◌}
 use Rattle.mm_classes.specs.declared.class.Base.{Base}
 use Rattle.mm_classes.specs.Lists.{Has}
 use Rattle.mm_classes.specs.Classes.{IsPolymorphic}
-
 use Rattle.mm_paths.proofs.build.any_polymorphic.Given as goal
 
 abbrev pub invariant-loop-n : goal.invariant-loop-n

@@ -1,5 +1,4 @@
 use Rattle.std.proofs.Common.{refl}
-
 use Rattle.mm_paths.proofs.Building.{virtual_declared, virtual_inherited}
 use Rattle.mm_paths.proofs.build.is_new_polymorphic.Goals as goal
 

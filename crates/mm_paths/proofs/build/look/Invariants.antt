@@ -1,6 +1,5 @@
 use Rattle.std.proofs.Common.{ℕ, length, ◌-◌, ◌≤◌, ◌<◌}
 use Rattle.mm_paths.specs.Ends.{IsFine}
-
 use Rattle.mm_paths.proofs.build.look.Given as goal
 
 abbrev pub invariant-loop-n : goal.invariant-loop-n

@@ -1,5 +1,4 @@
 use Rattle.std.proofs.Common.{arith}
-
 use Rattle.mm_paths.proofs.Building.{known_at, depth_more}
 use Rattle.mm_paths.proofs.build.new_depth_of.Goals as goal
 

@@ -1,6 +1,5 @@
 use Rattle.std.proofs.Common.{subst, ◌∙◌}
 use Rattle.mm_classes.specs.Lists.{Has}
-
 use Rattle.mm_paths.proofs.Added.{virtuals_stand}
 use Rattle.mm_paths.proofs.build.new_nodes.Goals as goal
 

@@ -1,5 +1,4 @@
 use Rattle.std.proofs.Common.{arith}
-
 use Rattle.mm_paths.proofs.Building.{known_at, virtual_bases_more}
 use Rattle.mm_paths.proofs.build.new_shared.Goals as goal
 

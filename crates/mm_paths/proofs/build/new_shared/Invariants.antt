@@ -1,6 +1,5 @@
 use Rattle.std.proofs.Common.{length, ◌-◌, ◌≡◌, ◌≤◌, take}
 use Rattle.mm_classes.specs.Adding.{new_virtual_bases}
-
 use Rattle.mm_paths.proofs.build.new_shared.Given as goal
 
 abbrev pub invariant-loop-n : goal.invariant-loop-n
