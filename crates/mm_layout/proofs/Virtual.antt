@@ -1,8 +1,10 @@
 -- Which classes have virtual bases, and tags.
-use Rattle.std.proofs.Common.{◌≡◌, ◌≢◌, ℕ, ◌<◌, ◌⊎◌, inl, inr, true, false, List, [], ◌∷◌, length, get_or, sym, ◌∙◌, ap, refl, subst, arith, ◌+◌, ◌++◌, Bool, not, eqb}
+use Rattle.std.proofs.Common.{◌≡◌, ◌≢◌, ℕ, ◌<◌, ◌⊎◌, inl, inr, true, false, List, [], ◌∷◌, length, get_or, sym, ◌∙◌, ap, refl, subst, arith, ◌+◌, ◌++◌, Bool, not, eqb, ◌↔◌, suc, zero}
+use Rattle.std.specs.Bool.{Decides}
+use Rattle.std.proofs.lemmas.Bool.Decides.{eqb_tells}
 use Rattle.std.proofs.lemmas.Bool.{cases_lt, eqb-true}
 use Rattle.std.proofs.lemmas.List.{get_or_append_left, get_or_push, get_or_read}
-use Rattle.mm_classes.specs.Lists.{Has}
+use Rattle.mm_classes.specs.Lists.{Has, first}
 use Rattle.mm_classes.specs.declared.class.Base.{Base}
 use Rattle.mm_classes.specs.declared.class.Member.{Member}
 use Rattle.mm_classes.specs.Classes.{Class, IsClassList, class_at, bases_of, members_of, IsPolymorphic, HasVirtual, Derives, direct, through}
@@ -11,21 +13,6 @@ use Rattle.mm_classes.specs.Questions.{node, IsNode}
 use Rattle.mm_classes.proofs.Subs.{are_subobjects, virtual_falls}
 use Rattle.mm_classes.proofs.Answering.{place_from_Has, Has-get_or, complete_below}
 use Rattle.mm_layout.specs.Regions.{HasTag}
-
--- a subobject that begins with another class begins with a virtual base
-pub other_head : (g : List Class) (c : ℕ) (p : Path) → IsSubobject g c p → get_or p 0 0 ≢ c → (v : ℕ) × IsVirtual g c v
-other_head g c [] s ne = absurd s
-other_head g c (h ∷ t) s ne = elim s.0 [ inl e ↦ absurd (ne e) | inr v ↦ (h, v) ]
-
--- where all begin with the class it has no virtual base
-pub no_virtual : (g : List Class) → IsClassList g → (c : ℕ) → ((k : ℕ) → k < length (subobjects_of g c) → get_or (node g c k) 0 0 ≡ c) → (v : ℕ) × IsVirtual g c v → ⊥
-no_virtual g ok c own (v, virtual) =
-    let here : (i : ℕ) × (i < length (subobjects_of g c)) × (node g c i ≡ v ∷ []) = place_from_Has (subobjects_of g c) [] (are_subobjects g ok c (v ∷ []) (inr virtual, tt)) in
-    let same : v ≡ c = ap (λ p. get_or p 0 0) (sym here.2) ∙ own here.0 here.1 in
-    no_less (ok.rank c) (subst (λ x. ok.rank x < ok.rank c) same (virtual_falls g ok c v virtual))
-  where
-    no_less : (n : ℕ) → n < n → ⊥
-    no_less n h = omega arith
 
 -- nothing is in an empty list
 none : {X : Type 0} (xs : List X) (x : X) → xs ≡ [] → Has xs x → ⊥
@@ -60,10 +47,17 @@ pushed P xs new n x d long each here e k h = subst (λ ys. P k (get_or ys k d)) 
   | inr past ↦ let is : n ≡ k = omega arith in subst (P k) (sym (get_or_push xs x d k (long ∙ is))) (subst (λ i. P i x) is here)
 ])
 
--- the head of a path, as it is compared
-pub head_is : (path p : List ℕ) (r c : ℕ) → path ≡ p → 0 < length path → r ≡ get_or path 0 r → not (eqb r c) ≡ false → get_or p 0 0 ≡ c
-head_is path p r c e h is f = ap (λ xs. get_or xs 0 0) (sym e) ∙ sym (get_or_read path 0 r h is 0) ∙ eqb-true r c (not_false (eqb r c) f)
+-- a list that has what has a property is not empty exactly where something has it
+pub some_of : (P : ℕ → Type 0) (vs : List ℕ) (b : Bool) → b ≡ eqb (length vs) 0 → ((v : ℕ) → P v ↔ Has vs v) → Decides (not b) ((v : ℕ) × P v)
+some_of P [] b e h =
+  let is_true : b ≡ true = e in
+  (λ f. let g : false ≡ true = sym (ap not is_true) ∙ f in cc, λ (v, p). absurd (none [] v refl ((h v).0 p)))
+some_of P (v ∷ vs) b e h =
+  let is_false : b ≡ false = e ∙ not_zero (eqb_tells (length (v ∷ vs)) 0) in
+  (λ _. (v, (h v).1 (first refl)), λ _. ap not is_false)
   where
-    not_false : (b : Bool) → not b ≡ false → b ≡ true
-    not_false true f = refl
-    not_false false f = cc
+    long : (n : ℕ) → suc n ≡ 0 → ⊥
+    long n z = omega arith
+    not_zero : ((eqb (length (v ∷ vs)) 0 ≡ true) × (length (v ∷ vs) ≡ 0)) ⊎ ((eqb (length (v ∷ vs)) 0 ≡ false) × (length (v ∷ vs) ≢ 0)) → eqb (length (v ∷ vs)) 0 ≡ false
+    not_zero (inl (_, z)) = absurd (long (length vs) z)
+    not_zero (inr (n, _)) = n

@@ -7,25 +7,16 @@ ghost use Rattle.mm_classes.specs.Subobjects.{IsVirtual};
 ghost use Rattle.mm_layout.specs.Regions.{HasTag, shares_cell, owns_cell};
 ghost use Rattle.mm_layout.specs.Layouts.{AreTags, test_of};
 
-use mm_classes::id::{ClassId, NodeId};
+use mm_classes::id::ClassId;
 use mm_paths::graph::Graph;
 use std::alloc::{AllocError, Global};
 
-/// Whether a class has a virtual base: then some subobject begins with another class.
+/// Whether a class has a virtual base.
 pub fn has_virtual_base(graph: &Graph, c: ClassId) -> bool
-    requires valid { IsClassList graph.now }
-    requires complete { IsComplete graph.now c }
+    requires { IsComplete graph.now c }
     ensures { Decides result ((v : ℕ) × IsVirtual graph.now c v) }
 {
-    let count = graph.count(c);
-    let mut n = 0;
-    while n < count {
-        if graph.path(c, NodeId { number: n })[0] != c {
-            return true;
-        }
-        n += 1;
-    }
-    false
+    !graph.virtual_bases(c).is_empty()
 }
 
 /// Whether objects of a class have a tag.

@@ -6,21 +6,20 @@ use crate::layout::{Layout, get_layout};
 use mm_classes::class::{Access, Base};
 use mm_classes::id::{ClassId, NodeId};
 use mm_paths::graph::Graph;
-use std::alloc::Global;
 use std::test::Fail;
 
 // Declares a class and completes it, with no members.
-fn add(graph: &mut Graph, alloc: Global, name: &str, bases: &[Base]) -> Option<ClassId> {
+fn add(graph: &mut Graph, name: &str, bases: &[Base]) -> Option<ClassId> {
     if graph.classes() > 4096 {
         return None;
     }
-    let Ok(class) = graph.declare(alloc, name) else {
+    let Ok(class) = graph.declare(name) else {
         return None;
     };
     if graph.is_complete(class) || !graph.are_declared(bases) {
         return None;
     }
-    match graph.add(alloc, class, bases, &[]) {
+    match graph.add(class, bases, &[]) {
         Ok(()) => Some(class),
         Err(_) => None,
     }
@@ -35,11 +34,11 @@ fn base(class: ClassId, shared: bool) -> Base {
 }
 
 // The last class of a diamond, whose top is a virtual base or not.
-fn diamond(graph: &mut Graph, alloc: Global, shared: bool) -> Option<ClassId> {
-    let a = add(graph, alloc, "A", &[])?;
-    let b = add(graph, alloc, "B", &[base(a, shared)])?;
-    let c = add(graph, alloc, "C", &[base(a, shared)])?;
-    add(graph, alloc, "D", &[base(b, false), base(c, false)])
+fn diamond(graph: &mut Graph, shared: bool) -> Option<ClassId> {
+    let a = add(graph, "A", &[])?;
+    let b = add(graph, "B", &[base(a, shared)])?;
+    let c = add(graph, "C", &[base(a, shared)])?;
+    add(graph, "D", &[base(b, false), base(c, false)])
 }
 
 // The offset of the last of so many subobjects, and the size.
@@ -54,11 +53,11 @@ fn last_and_size(layout: &Layout, d: ClassId, count: u32) -> Option<(u32, u32)> 
 #[test]
 fn diamonds_have_a_region_for_each_subobject(rt: HostRuntime) -> Result<(), Fail> {
     let mut plain = Graph::new(rt.alloc());
-    let repeated = diamond(&mut plain, rt.alloc(), false).ok_or("no class")?;
+    let repeated = diamond(&mut plain, false).ok_or("no class")?;
     let layout = get_layout(rt.alloc(), &plain)?;
     assert_eq!(rt; last_and_size(&layout, repeated, 5), Some((32, 40)));
     let mut shared = Graph::new(rt.alloc());
-    let virtual_one = diamond(&mut shared, rt.alloc(), true).ok_or("no class")?;
+    let virtual_one = diamond(&mut shared, true).ok_or("no class")?;
     let layout = get_layout(rt.alloc(), &shared)?;
     assert_eq!(rt; last_and_size(&layout, virtual_one, 4), Some((24, 32)));
     Ok(())
