@@ -26,4 +26,5 @@ cell_at shape cells place = get_or cells (index_of shape place) 0
 -- The slices at i and at j along an axis are equal: wherever the other axes stand, the cells are.
 abbrev pub AreAlike : List ℕ → List ℕ → ℕ → ℕ → ℕ → Type 0
 AreAlike shape cells axis i j =
-    (place : List ℕ) → IsPlace shape place → cell_at shape cells (set place axis i) ≡ cell_at shape cells (set place axis j)
+    (place : List ℕ) → IsPlace shape place
+    → cell_at shape cells (set place axis i) ≡ cell_at shape cells (set place axis j)

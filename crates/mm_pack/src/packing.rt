@@ -24,8 +24,8 @@ fn push_round(
     Ok(round.cells)
 }
 
-/// The table with these lengths of axes and these cells, the last axis running fastest, of which each axis keeps equal
-/// slices once.
+/// The table with these lengths of axes and these cells, the last axis running fastest, of which
+/// each axis keeps equal slices once.
 pub fn pack(alloc: Global, shape: &[u32], cells: &[u32]) -> Result<Packed, NoMemory>
     requires long { All (λ n. 0 < n) shape.now }
     requires count { product shape.now ≡ length cells.now }

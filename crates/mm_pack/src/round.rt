@@ -29,7 +29,8 @@ pub fn number_rows<'a>(
     requires count { length cells.now ≡ rows * width }
     requires few { rows ≤ 2 ^ 20 }
     requires small { length cells.now ≤ 2 ^ 20 }
-    ensures numbered { IfOk result (λ v. AreNumbered cells.now width rows (map (λ r. r.now) seen.new.keys) v.items) }
+    ensures numbered { IfOk result (λ v.
+        AreNumbered cells.now width rows (map (λ r. r.now) seen.new.keys) v.items) }
     ensures few { OnOk result (length seen.new.keys ≤ rows) }
     ensures wide { OnOk result (All (λ r. length r.now ≡ width) seen.new.keys) }
 {
@@ -46,7 +47,8 @@ pub fn number_rows<'a>(
 pub fn push_column(cells: &mut Vec<u32>, rows: &[&[u32]], column: usize) -> Result<(), AllocError>
     requires wide { All (λ r. column < length r.now) rows.now }
     requires low { column < 2 ^ 20 }
-    ensures { OnOk result (cells.new.items ≡ cells.old.items ++ map (λ r. get_or r.now column 0) rows.now) }
+    ensures { OnOk result
+        (cells.new.items ≡ cells.old.items ++ map (λ r. get_or r.now column 0) rows.now) }
 {
     for row in rows {
         cells.push(row[column])?;
