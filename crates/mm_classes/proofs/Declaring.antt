@@ -3,11 +3,26 @@ use Rattle.std.proofs.Common.{◌≡◌, ℕ, ◌<◌, ◌≤◌, List, [], ◌�
 use Rattle.std.specs.Prelude.{true, ◌⊎◌}
 use Rattle.std.proofs.lemmas.List.{get_or_past, get_or_append_left, get_or_push, map-append}
 use Rattle.mm_classes.specs.declared.class.Base.{Base}
+use Rattle.mm_classes.specs.declared.class.Member.{Member}
+use Rattle.mm_classes.specs.declared.class.Ty.{Ty}
+use Rattle.mm_classes.specs.declared.class.Ty.TheVariants as ty
 use Rattle.mm_classes.specs.Lists.{Has, first, later, Distinct}
-use Rattle.mm_classes.specs.Classes.{Class, class_at, bases_of, members_of, names_in, unknown, IsClassList, IsMemberList, complete_count}
+use Rattle.mm_classes.specs.Classes.{Class, class_at, bases_of, members_of, names_in, unknown, IsClassList, IsMemberList, IsTyped, AreTyped, complete_count}
 use Rattle.mm_classes.specs.Adding.{fresh}
 use Rattle.mm_classes.proofs.Lists.{Distinct-append}
 use Rattle.mm_classes.proofs.Answering.{complete_below}
+
+type-more : (n m : ℕ) → n ≤ m → (t : Ty) → IsTyped n t → IsTyped m t
+type-more n m l ty.Void h = tt
+type-more n m l ty.Bool h = tt
+type-more n m l ty.Int h = tt
+type-more n m l ty.Unsigned h = tt
+type-more n m l (ty.Ptr c) h = omega arith
+type-more n m l (ty.Ref c) h = omega arith
+
+-- a longer list has the classes that it had
+pub typed-more : (n k : ℕ) (ms : List Member) → n ≤ k → AreTyped n ms → AreTyped k ms
+typed-more n k ms l h m t a b = type-more n k l t (h m t a b)
 
 pub where_is : (x n : ℕ) → (x < n) ⊎ ((x ≡ n) ⊎ (n < x))
 where_is x n = grind arith
@@ -42,7 +57,7 @@ module _ (g : List Class) (n : List ℕ) where
   same_members : (x : ℕ) → members_of (g ++ fresh n ∷ []) x ≡ members_of g x
   same_members x = same_part (λ (c : Class). c.members) refl x
 
-  same_complete : (x : ℕ) → (class_at (g ++ fresh n ∷ []) x).complete ≡ (class_at g x).complete
+  pub same_complete : (x : ℕ) → (class_at (g ++ fresh n ∷ []) x).complete ≡ (class_at g x).complete
   same_complete x = same_part (λ (c : Class). c.complete) refl x
 
   new_name : IsClassList g → (Has (names_in g) n → ⊥) → Distinct (names_in (g ++ fresh n ∷ []))
@@ -58,6 +73,8 @@ module _ (g : List Class) (n : List ℕ) where
     once = λ c. subst (λ (z : List Base). Distinct (map (λ (b : Base). b.class) z)) (sym (same_bases c)) (ok.once c);
     bare = λ c h. let k = ok.bare c (sym (same_complete c) ∙ h) in (same_bases c ∙ k.0, same_members c ∙ k.1);
     members = λ c. subst IsMemberList (sym (same_members c)) (ok.members c);
+    typed = λ c. subst (AreTyped (length (g ++ fresh n ∷ []))) (sym (same_members c))
+        (typed-more (length g) (length (g ++ fresh n ∷ [])) (members_of g c) (let k = length-append g (fresh n ∷ []) in omega arith) (ok.typed c));
     named = new_name ok new;
   }
 

@@ -7,9 +7,9 @@ use Rattle.std.proofs.lemmas.List.{get_or-set_same, get_or-set_other}
 use Rattle.mm_classes.specs.declared.class.Base.{Base}
 use Rattle.mm_classes.specs.declared.class.Member.{Member}
 use Rattle.mm_classes.specs.Lists.{Has, Distinct, firsts, with_all_new}
-use Rattle.mm_classes.specs.Classes.{Class, class_at, bases_of, members_of, names_in, name_of, unknown, IsClassList, IsMemberList, HasVirtual, Derives, direct, through, IsPolymorphic, complete_count, most, depth_within, depth_of}
+use Rattle.mm_classes.specs.Classes.{Class, class_at, bases_of, members_of, names_in, name_of, unknown, IsClassList, HasVirtual, AreTyped, IsMemberList, Derives, direct, through, IsPolymorphic, complete_count, most, depth_within, depth_of}
 use Rattle.mm_classes.specs.Subobjects.{Path, plain_bases, chains, met, walk, virtual_bases, subobjects_of}
-use Rattle.mm_classes.specs.Adding.{added, new_class, new_virtual_bases, new_chains, new_subobjects, new_depth, IsNewPolymorphic, declares, inherits}
+use Rattle.mm_classes.specs.Adding.{added, CanAdd, new_class, new_virtual_bases, new_chains, new_subobjects, new_depth, IsNewPolymorphic, declares, inherits}
 use Rattle.mm_classes.proofs.Lists.{flat_map-same, Has-append, Has-flat_map_from, with_all_new-append, with_all_new-from, with_firsts}
 use Rattle.mm_classes.proofs.Subs.{plain_is, chains-same, walk-same, walk_is, no_bases, deep, met_is}
 use Rattle.mm_classes.proofs.Answering.{virtual_complete}
@@ -106,7 +106,7 @@ module _ (g g' : List Class) (ok : IsClassList g) (longer : length g ≤ length 
   from_derives c b k (direct x h e) = direct x (subst (λ z. Has z x) (same c k) h) e
   from_derives c b k (through x h d) = let i = subst (λ z. Has z x) (same c k) h in through x i (from_derives x.class b (ok.known c x i) d)
 
-  derived_complete : (c b : ℕ) → Derives g c b → (class_at g b).complete ≡ true
+  pub derived_complete : (c b : ℕ) → Derives g c b → (class_at g b).complete ≡ true
   derived_complete c b (direct x h e) = subst (λ w. (class_at g w).complete ≡ true) e (ok.known c x h)
   derived_complete c b (through x h d) = derived_complete x.class b d
 
@@ -150,17 +150,15 @@ pub added-names : (g : List Class) (c : ℕ) (bs : List Base) (ms : List Member)
 added-names g c bs ms h = names-set g c (new_class g c bs ms) h refl
 
 -- a class that was incomplete is completed by bases that are complete, each once
-module _ (g : List Class) (ok : IsClassList g) (c : ℕ) (bs : List Base) (ms : List Member)
-    (here : c < length g) (open_yet : (class_at g c).complete ≡ false) (known : (b : Base) → Has bs b → (class_at g b.class).complete ≡ true)
-    (once : Distinct (map (λ (b : Base). b.class) bs)) (fit : IsMemberList ms) where
-  at_new : class_at (added g c bs ms) c ≡ new_class g c bs ms
-  at_new = get_or-set_same g c (new_class g c bs ms) unknown here
+module _ (g : List Class) (ok : IsClassList g) (c : ℕ) (bs : List Base) (ms : List Member) (new : CanAdd g c bs ms) where
+  pub at_new : class_at (added g c bs ms) c ≡ new_class g c bs ms
+  at_new = get_or-set_same g c (new_class g c bs ms) unknown new.here
 
-  at_other : (x : ℕ) → x ≢ c → class_at (added g c bs ms) x ≡ class_at g x
+  pub at_other : (x : ℕ) → x ≢ c → class_at (added g c bs ms) x ≡ class_at g x
   at_other x ne = get_or-set_other g c x (new_class g c bs ms) unknown ne
 
   complete_other : (x : ℕ) → (class_at g x).complete ≡ true → x ≢ c
-  complete_other x k e = let z : true ≡ false = sym k ∙ (ap (λ w. (class_at g w).complete) e ∙ open_yet) in cc
+  complete_other x k e = let z : true ≡ false = sym k ∙ (ap (λ w. (class_at g w).complete) e ∙ new.incomplete) in cc
 
   rank' : ℕ → ℕ
   rank' x = cond (nat_eq x c) (suc (complete_count g)) (ok.rank x)
@@ -176,7 +174,7 @@ module _ (g : List Class) (ok : IsClassList g) (c : ℕ) (bs : List Base) (ms : 
   pub added-valid : IsClassList (added g c bs ms)
   added-valid = record {
     rank = rank';
-    low = λ x. let m = complete_count-set g c (new_class g c bs ms) here open_yet refl in
+    low = λ x. let m = complete_count-set g c (new_class g c bs ms) new.here new.incomplete refl in
         elim (eqb_tells x c) [
           | inl y ↦ (let r = rank-new x y.1 in omega arith)
           | inr n ↦ (let r = rank-other x n.1 in let l = ok.low x in omega arith)
@@ -185,7 +183,7 @@ module _ (g : List Class) (ok : IsClassList g) (c : ℕ) (bs : List Base) (ms : 
       | inl y ↦ (
           let hb : Has bs b = subst (λ z. Has z b) (ap (λ w. bases_of (added g c bs ms) w) y.1 ∙ ap (λ (k : Class). k.bases) at_new) h in
           let r = rank-new x y.1 in
-          let q = rank-other b.class (complete_other b.class (known b hb)) in
+          let q = rank-other b.class (complete_other b.class (new.known b hb)) in
           let l = ok.low b.class in omega arith)
       | inr n ↦ (
           let hb : Has (bases_of g x) b = subst (λ z. Has z b) (ap (λ (k : Class). k.bases) (at_other x n.1)) h in
@@ -196,13 +194,13 @@ module _ (g : List Class) (ok : IsClassList g) (c : ℕ) (bs : List Base) (ms : 
     known = λ x b h. elim (eqb_tells x c) [
       | inl y ↦ (
           let hb : Has bs b = subst (λ z. Has z b) (ap (λ w. bases_of (added g c bs ms) w) y.1 ∙ ap (λ (k : Class). k.bases) at_new) h in
-          ap (λ (k : Class). k.complete) (at_other b.class (complete_other b.class (known b hb))) ∙ known b hb)
+          ap (λ (k : Class). k.complete) (at_other b.class (complete_other b.class (new.known b hb))) ∙ new.known b hb)
       | inr n ↦ (
           let hb : Has (bases_of g x) b = subst (λ z. Has z b) (ap (λ (k : Class). k.bases) (at_other x n.1)) h in
           ap (λ (k : Class). k.complete) (at_other b.class (complete_other b.class (ok.known x b hb))) ∙ ok.known x b hb)
     ];
     once = λ x. elim (eqb_tells x c) [
-      | inl y ↦ subst (λ (z : List Base). Distinct (map (λ (b : Base). b.class) z)) (sym (ap (λ w. bases_of (added g c bs ms) w) y.1 ∙ ap (λ (k : Class). k.bases) at_new)) once
+      | inl y ↦ subst (λ (z : List Base). Distinct (map (λ (b : Base). b.class) z)) (sym (ap (λ w. bases_of (added g c bs ms) w) y.1 ∙ ap (λ (k : Class). k.bases) at_new)) new.once
       | inr n ↦ subst (λ (z : List Base). Distinct (map (λ (b : Base). b.class) z)) (sym (ap (λ (k : Class). k.bases) (at_other x n.1))) (ok.once x)
     ];
     bare = λ x h. elim (eqb_tells x c) [
@@ -212,10 +210,16 @@ module _ (g : List Class) (ok : IsClassList g) (c : ℕ) (bs : List Base) (ms : 
           (ap (λ (k : Class). k.bases) (at_other x n.1) ∙ k.0, ap (λ (k : Class). k.members) (at_other x n.1) ∙ k.1))
     ];
     members = λ x. elim (eqb_tells x c) [
-      | inl y ↦ subst IsMemberList (sym (ap (λ w. members_of (added g c bs ms) w) y.1 ∙ ap (λ (k : Class). k.members) at_new)) fit
+      | inl y ↦ subst IsMemberList (sym (ap (λ w. members_of (added g c bs ms) w) y.1 ∙ ap (λ (k : Class). k.members) at_new)) new.members
       | inr n ↦ subst IsMemberList (sym (ap (λ (k : Class). k.members) (at_other x n.1))) (ok.members x)
     ];
-    named = subst Distinct (sym (names-set g c (new_class g c bs ms) here refl)) ok.named;
+    typed = λ x. elim (eqb_tells x c) [
+      | inl y ↦ subst (AreTyped (length (added g c bs ms))) (sym (ap (λ w. members_of (added g c bs ms) w) y.1 ∙ ap (λ (k : Class). k.members) at_new))
+          (subst (λ n. AreTyped n ms) (sym (length-set g c (new_class g c bs ms))) new.typed)
+      | inr n ↦ subst (AreTyped (length (added g c bs ms))) (sym (ap (λ (k : Class). k.members) (at_other x n.1)))
+          (subst (λ n. AreTyped n (members_of g x)) (sym (length-set g c (new_class g c bs ms))) (ok.typed x))
+    ];
+    named = subst Distinct (sym (names-set g c (new_class g c bs ms) new.here refl)) ok.named;
   }
 
   pub as_before : (x : ℕ) → (class_at g x).complete ≡ true → class_at (added g c bs ms) x ≡ class_at g x
@@ -233,25 +237,25 @@ module _ (g : List Class) (ok : IsClassList g) (c : ℕ) (bs : List Base) (ms : 
   pub added-chains_kept : (x : ℕ) → (class_at g x).complete ≡ true → chains (added g c bs ms) (length (added g c bs ms)) x ≡ chains g (length g) x
   added-chains_kept = chains-all_kept g (added g c bs ms) ok as_long as_before
 
-  new_bases : bases_of (added g c bs ms) c ≡ bs
+  pub new_bases : bases_of (added g c bs ms) c ≡ bs
   new_bases = ap (λ (k : Class). k.bases) at_new
 
   pub added-virtual_bases : virtual_bases (added g c bs ms) c ≡ new_virtual_bases g bs
   added-virtual_bases = virtual_bases-unfold (added g c bs ms) added-valid c
       ∙ (ap (λ (z : List Base). firsts (flat_map (λ (b : Base). met b ++ virtual_bases (added g c bs ms) b.class) z)) new_bases
       ∙ ap firsts (flat_map-same (λ (b : Base). met b ++ virtual_bases (added g c bs ms) b.class) (λ (b : Base). met b ++ virtual_bases g b.class) bs
-      (λ b h. ap (λ z. met b ++ z) (added-virtual_bases_kept b.class (known b h)))))
+      (λ b h. ap (λ z. met b ++ z) (added-virtual_bases_kept b.class (new.known b h)))))
 
   pub added-chains : chains (added g c bs ms) (length (added g c bs ms)) c ≡ new_chains g c bs
   added-chains = chains-unfold (added g c bs ms) added-valid c
       ∙ (ap (λ (z : List Base). (c ∷ []) ∷ flat_map (λ b. map (λ p. c ∷ p) (chains (added g c bs ms) (length (added g c bs ms)) b)) (plain_bases z)) new_bases
       ∙ ap (λ (ps : List Path). (c ∷ []) ∷ ps) (flat_map-same (λ b. map (λ p. c ∷ p) (chains (added g c bs ms) (length (added g c bs ms)) b)) (λ b. map (λ p. c ∷ p) (chains g (length g) b)) (plain_bases bs)
-      (λ b h. let r = plain_is bs h in ap (map (λ (p : Path). c ∷ p)) (added-chains_kept b (subst (λ w. (class_at g w).complete ≡ true) r.3 (known r.0 r.1))))))
+      (λ b h. let r = plain_is bs h in ap (map (λ (p : Path). c ∷ p)) (added-chains_kept b (subst (λ w. (class_at g w).complete ≡ true) r.3 (new.known r.0 r.1))))))
 
   pub added-subobjects : subobjects_of (added g c bs ms) c ≡ new_subobjects g c bs
   added-subobjects = ap₂ (λ (x y : List Path). x ++ y) added-chains
       (ap (flat_map (chains (added g c bs ms) (length (added g c bs ms)))) added-virtual_bases
-      ∙ flat_map-same (chains (added g c bs ms) (length (added g c bs ms))) (chains g (length g)) (new_virtual_bases g bs) (λ v h. added-chains_kept v (new_virtual_bases-complete g ok bs known v h)))
+      ∙ flat_map-same (chains (added g c bs ms) (length (added g c bs ms))) (chains g (length g)) (new_virtual_bases g bs) (λ v h. added-chains_kept v (new_virtual_bases-complete g ok bs new.known v h)))
 
   pub added-depth_kept : (x : ℕ) → (class_at g x).complete ≡ true → depth_of (added g c bs ms) x ≡ depth_of g x
   added-depth_kept = depth_of-kept g (added g c bs ms) ok as_long as_before
@@ -260,7 +264,7 @@ module _ (g : List Class) (ok : IsClassList g) (c : ℕ) (bs : List Base) (ms : 
   added-depth = depth-unfold (added g c bs ms) added-valid c
       ∙ (ap (λ (z : List Base). most (map (λ (b : Base). depth_of (added g c bs ms) b.class + 1) z)) new_bases
       ∙ ap most (map-same (λ (b : Base). depth_of (added g c bs ms) b.class + 1) (λ (b : Base). depth_of g b.class + 1) bs
-      (λ b h. ap (λ z. z + 1) (added-depth_kept b.class (known b h)))))
+      (λ b h. ap (λ z. z + 1) (added-depth_kept b.class (new.known b h)))))
 
   pub added-to_polymorphic : (x : ℕ) → (class_at g x).complete ≡ true → IsPolymorphic g x → IsPolymorphic (added g c bs ms) x
   added-to_polymorphic = to_polymorphic g (added g c bs ms) ok as_long as_before
@@ -274,17 +278,17 @@ module _ (g : List Class) (ok : IsClassList g) (c : ℕ) (bs : List Base) (ms : 
   pub new_polymorphic : IsNewPolymorphic g bs ms → IsPolymorphic (added g c bs ms) c
   new_polymorphic (declares v) = (c, inl refl, subst HasVirtual (sym new_members) v)
   new_polymorphic (inherits b h p) =
-      let q = added-to_polymorphic b.class (known b h) p in
+      let q = added-to_polymorphic b.class (new.known b h) p in
       let k = subst (λ z. Has z b) (sym new_bases) h in
       (q.0, inr (elim q.1 [ inl e ↦ direct b k e | inr d ↦ through b k d ]), q.2)
 
   polymorphic_below : (b : ℕ) → Derives (added g c bs ms) c b → HasVirtual (members_of (added g c bs ms) b) → IsNewPolymorphic g bs ms
   polymorphic_below b (direct x h e) v =
       let k = subst (λ z. Has z x) new_bases h in
-      inherits x k (added-from_polymorphic x.class (known x k) (b, inl e, v))
+      inherits x k (added-from_polymorphic x.class (new.known x k) (b, inl e, v))
   polymorphic_below b (through x h d) v =
       let k = subst (λ z. Has z x) new_bases h in
-      inherits x k (added-from_polymorphic x.class (known x k) (b, inr d, v))
+      inherits x k (added-from_polymorphic x.class (new.known x k) (b, inr d, v))
 
   pub polymorphic_new : IsPolymorphic (added g c bs ms) c → IsNewPolymorphic g bs ms
   polymorphic_new p = elim p.1 [

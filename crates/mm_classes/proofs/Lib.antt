@@ -11,3 +11,7 @@ pub mod Laws
 pub mod Examples
 pub mod Cuts
 pub mod Places
+pub mod Ways
+pub mod AccessLaws
+pub mod Tops
+pub mod Parts

@@ -135,7 +135,7 @@ module _ (g : List Class) (ok : IsClassList g) where
       (h, are_virtual_bases g ok d v (sub_virtual g d (node g d n) v (node_sub g ok d n hn) (virtual_bases_are g ok c v h)))
 
   -- where the subobjects of a virtual base begin
-  base_block : (d k v : ℕ) → k < length (virtual_bases g d) → get_or (virtual_bases g d) k 0 ≡ v
+  pub base_block : (d k v : ℕ) → k < length (virtual_bases g d) → get_or (virtual_bases g d) k 0 ≡ v
       → (a r : List Path) × (subobjects_of g d ≡ a ++ (chains g (length g) v ++ r)) × (length a ≡ start_of g d k)
   base_block d k v l e =
       let w = cut_at (virtual_bases g d) k 0 l in

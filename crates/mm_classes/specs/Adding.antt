@@ -3,8 +3,8 @@ use Rattle.std.specs.Prelude.{◌≡◌, ◌≢◌, ℕ, ◌+◌, ◌<◌, ◌�
 use Rattle.std.specs.List.{flat_map}
 use Rattle.mm_classes.specs.declared.class.Base.{Base}
 use Rattle.mm_classes.specs.declared.class.Member.{Member}
-use Rattle.mm_classes.specs.Lists.{Has, firsts}
-use Rattle.mm_classes.specs.Classes.{Class, class_at, name_of, depth_of, most, IsPolymorphic, HasVirtual}
+use Rattle.mm_classes.specs.Lists.{Has, Distinct, firsts}
+use Rattle.mm_classes.specs.Classes.{Class, class_at, name_of, depth_of, most, IsPolymorphic, HasVirtual, IsMemberList, AreTyped}
 use Rattle.mm_classes.specs.Subobjects.{Path, plain_bases, met, chains, virtual_bases}
 
 -- the class with these bases and members
@@ -30,6 +30,20 @@ declared n g name = cond (nat_lt n (length g)) g (g ++ fresh name ∷ [])
 -- the bases are complete
 abbrev pub AreKnown : List Class → List Base → Type 0
 AreKnown g bs = (b : Base) → Has bs b → (class_at g b.class).complete ≡ true
+
+-- the bases are of declared classes
+abbrev pub AreDeclared : List Class → List Base → Type 0
+AreDeclared g bs = (b : Base) → Has bs b → b.class < length g
+
+-- c is declared and not complete, and may have these bases and members: the bases are complete and each another class, and
+-- the members are such as one class may declare
+pub record CanAdd (g : List Class) (c : ℕ) (bs : List Base) (ms : List Member) : Type 0 where
+  pub here : c < length g
+  pub incomplete : (class_at g c).complete ≡ false
+  pub known : AreKnown g bs
+  pub once : Distinct (map (λ (b : Base). b.class) bs)
+  pub members : IsMemberList ms
+  pub typed : AreTyped (length g) ms
 
 -- WHAT A NEW CLASS HAS, BY WHAT ITS BASES HAVE
 -- its virtual bases

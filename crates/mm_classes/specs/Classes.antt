@@ -1,10 +1,12 @@
 -- Class lists. ISO/IEC 14882:1998, 10 (derived classes), 10.1 (multiple base classes), 10.3 (virtual functions). Own where no
 -- section stands.
-use Rattle.std.specs.Prelude.{◌≡◌, ◌≢◌, ℕ, zero, suc, ◌+◌, ◌<◌, ◌≤◌, ◌^◌, Bool, true, false, List, [], ◌∷◌, map, length, get_or, cond, count_by, max, AllPairs, ◌⊎◌}
+use Rattle.std.specs.Prelude.{Option, None, Some, ◌≡◌, ◌≢◌, ℕ, zero, suc, ◌+◌, ◌<◌, ◌≤◌, ◌^◌, Bool, true, false, List, [], ◌∷◌, map, length, get_or, cond, count_by, max, AllPairs, ◌⊎◌}
 use Rattle.mm_classes.specs.declared.class.Base.{Base}
 use Rattle.mm_classes.specs.declared.class.Member.{Member}
 use Rattle.mm_classes.specs.declared.class.MemberKind.{MemberKind}
 use Rattle.mm_classes.specs.declared.class.MemberKind.TheVariants as kind
+use Rattle.mm_classes.specs.declared.class.Ty.{Ty}
+use Rattle.mm_classes.specs.declared.class.Ty.TheVariants as ty
 use Rattle.mm_classes.specs.Lists.{Has, Distinct}
 
 -- A class: its name, whether its definition has been seen, and the direct bases (10) and the members (9.2) of that definition.
@@ -62,14 +64,32 @@ AreOverloads (kind.Field t) (kind.Field u) = ⊥
 abbrev pub AreApart : Member → Member → Type 0
 AreApart m x = m.name ≡ x.name → AreOverloads m.kind x.kind
 
+-- the type names no class, or one of the first n
+abbrev pub IsTyped : ℕ → Ty → Type 0
+IsTyped n ty.Void = Unit {0}
+IsTyped n ty.Bool = Unit {0}
+IsTyped n ty.Int = Unit {0}
+IsTyped n ty.Unsigned = Unit {0}
+IsTyped n (ty.Ptr c) = c < n
+IsTyped n (ty.Ref c) = c < n
+
+-- the type of a field; those of a function's result and parameters
+abbrev pub types_in : MemberKind → List Ty
+types_in (kind.Field t) = t ∷ []
+types_in (kind.Function ps r v) = r ∷ ps
+
+-- each class that a member's type names is one of the first n
+abbrev pub AreTyped : ℕ → List Member → Type 0
+AreTyped n ms = (m : Member) (t : Ty) → Has ms m → Has (types_in m.kind) t → IsTyped n t
+
 -- What the members of one class keep: there are fewer than 2^32, and two of one name are overloads (9.2, 13.1).
 pub record IsMemberList (ms : List Member) : Type 0 where
   pub few : length ms < 2 ^ 32
   pub apart : AllPairs AreApart ms
 
 -- Every base is a complete class, none is a direct base twice (10.1), no two classes have one name, and the classes have
--- an order in which bases come first, so that no chain of direct bases meets a class twice. Of an incomplete class only
--- the name is known.
+-- an order in which bases come first, so that no chain of direct bases meets a class twice. Each class in a member's type is
+-- declared. Of an incomplete class only the name is known.
 pub record IsClassList (g : List Class) : Type 0 where
   pub rank : ℕ → ℕ
   pub low : (c : ℕ) → rank c ≤ complete_count g
@@ -78,7 +98,18 @@ pub record IsClassList (g : List Class) : Type 0 where
   pub once : (c : ℕ) → Distinct (map (λ (b : Base). b.class) (bases_of g c))
   pub bare : (c : ℕ) → (class_at g c).complete ≡ false → (bases_of g c ≡ []) × (members_of g c ≡ [])
   pub members : (c : ℕ) → IsMemberList (members_of g c)
+  pub typed : (c : ℕ) → AreTyped (length g) (members_of g c)
   pub named : Distinct (names_in g)
+
+-- the name of the k-th member
+abbrev pub member_name : List Member → ℕ → List ℕ
+member_name ms k = get_or (map (λ (m : Member). m.name) ms) k []
+
+-- the first member of a name, from a number on: the answer is its number, or none
+abbrev pub IsNextNamed : Option ℕ → List Member → List ℕ → ℕ → Type 0
+IsNextNamed None ms name from = (k : ℕ) → from ≤ k → k < length ms → member_name ms k ≢ name
+IsNextNamed (Some k) ms name from = (from ≤ k) × (k < length ms) × (member_name ms k ≡ name)
+    × ((j : ℕ) → from ≤ j → j < k → member_name ms j ≢ name)
 
 -- c derives from b: a chain of one or more direct bases leads from c to b (10).
 pub data Derives (g : List Class) : ℕ → ℕ → Type 0 where

@@ -1,8 +1,10 @@
 -- What callers may rely on of subobjects.
-use Rattle.std.specs.Prelude.{◌≡◌, ℕ, ◌<◌, ◌≤◌, List, length}
+use Rattle.std.specs.Prelude.{◌≡◌, ℕ, ◌<◌, ◌≤◌, List, length, Option}
+use Rattle.mm_classes.specs.declared.class.Access.{Access}
 use Rattle.mm_classes.specs.declared.class.Base.{Base}
 use Rattle.mm_classes.specs.Lists.{Has, Distinct}
-use Rattle.mm_classes.specs.Classes.{Class, bases_of, depth_of}
+use Rattle.mm_classes.specs.Classes.{Class, bases_of, depth_of, IsComplete}
+use Rattle.mm_classes.specs.Access.{IsAccess}
 use Rattle.mm_classes.specs.Subobjects.{Path, IsSubobject, subobjects_of, compose, end_of, IsWithin}
 
 -- the list of the subobjects of d holds exactly these, each once
@@ -20,6 +22,11 @@ pub record Composes (g : List Class) : Type 0 where
   pub itself : (d : ℕ) (t : Path) → IsSubobject g d t → IsWithin g t t
   pub through : (d : ℕ) (t s r : Path) → IsSubobject g d t → IsWithin g s t → IsWithin g r s → IsWithin g r t
   pub both : (d : ℕ) (t s : Path) → IsSubobject g d t → IsSubobject g d s → IsWithin g s t → IsWithin g t s → t ≡ s
+
+-- a member of each subobject of a complete class has one access there, whatever access it is declared with
+pub record HasAccess (g : List Class) : Type 0 where
+  pub each : (d : ℕ) (p : Path) (a : Access) → IsComplete g d → IsSubobject g d p → (x : Option Access) × IsAccess g d p a x
+  pub one : (d : ℕ) (p : Path) (a : Access) (x y : Option Access) → IsAccess g d p a x → IsAccess g d p a y → x ≡ y
 
 -- a direct base has a lower depth
 pub record Deepens (g : List Class) (c : ℕ) : Type 0 where

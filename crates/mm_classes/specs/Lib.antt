@@ -2,5 +2,8 @@ pub mod Lists
 pub mod Classes
 pub mod Subobjects
 pub mod Questions
+pub mod Tops
 pub mod Adding
+pub mod Access
+pub mod Functions
 pub mod Laws

@@ -45,6 +45,10 @@ Surrounds g d n t x = (end_of (node g d x) ≡ t) × IsWithin g (node g d n) (no
 abbrev pub IsAroundOf : Around → List Class → ℕ → ℕ → ℕ → Type 0
 IsAroundOf answer g d n t = Picks (as_up answer) (Surrounds g d n t) (length (subobjects_of g d))
 
+-- the n-th subobject of c has a property, and no other one that contains it has
+abbrev pub IsLeft : List Class → ℕ → (ℕ → Type 0) → ℕ → Type 0
+IsLeft g c P n = P n × ((m : ℕ) → m < length (subobjects_of g c) → P m → IsWithin g (node g c n) (node g c m) → m ≡ n)
+
 -- an answer with one more number that fits, or one that does not
 abbrev pub one_more : Up → ℕ → Up
 one_more up.None n = up.One n

@@ -1,6 +1,6 @@
 -- The steps of the loops that make a new class.
 use Rattle.std.proofs.Common.{◌≡◌, ℕ, zero, suc, ◌+◌, ◌<◌, ◌≤◌, List, [], ◌∷◌, ◌++◌, length, get_or, take, drop, map, refl, sym, subst, ap, ap₂, ◌∙◌, inl, inr, arith, length-append, append-nil, append_assoc}
-use Rattle.std.specs.Prelude.{Bool, true, false, cond, max, ◌||◌}
+use Rattle.std.specs.Prelude.{Bool, true, false, cond, max, ◌||◌, Result, Ok, Err, IfErr, IsErrAnd}
 use Rattle.std.specs.Bool.{Decides}
 use Rattle.std.specs.List.{flat_map, list_any}
 use Rattle.mm_classes.specs.declared.class.Member.{Member}
@@ -23,6 +23,9 @@ all_new_more seen xs now i x l e d h =
 
 pub known_at : (g : List Class) (bs : List Base) (i : ℕ) (x : Base) → x ≡ get_or bs i x → AreKnown g bs → i < length bs → IsComplete g x.class
 known_at g bs i x e k l = subst (λ (z : Base). IsComplete g z.class) (sym e) (let h = k (get_or bs i x) (Has-get_or bs i x l) in (complete_below g (get_or bs i x).class h, h))
+
+pub has_here : {X : Type 0} (xs : List X) (i : ℕ) (x : X) → x ≡ get_or xs i x → i < length xs → Has xs x
+has_here xs i x e l = subst (Has xs) (sym e) (Has-get_or xs i x l)
 
 pub take_at_more : {X : Type 0} (xs : List X) (i : ℕ) (x : X) → x ≡ get_or xs i x → i < length xs → take (i + 1) xs ≡ take i xs ++ x ∷ []
 take_at_more xs i x e l = take_more xs i x l ∙ ap (λ z. take i xs ++ z ∷ []) (sym e)
@@ -140,3 +143,8 @@ shared_many f olds ns own vs i x ex l o e n =
     let s = ap length e in
     let t = length-append (paths_in olds) (flat_map f (take i vs)) in
     let u = ap length o in omega arith
+
+-- an error that is passed on
+pub err_moved : {A E : Type 0} (r : Result A E) (x m : E) (P : Type 0) → IsErrAnd r (λ e. e ≡ x) → (x ≡ m → P) → IfErr r (λ e. e ≡ m → P)
+err_moved (Ok v) x m P h k = tt
+err_moved (Err e) x m P h k = λ q. k (sym h ∙ q)

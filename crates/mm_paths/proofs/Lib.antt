@@ -1,9 +1,15 @@
 pub mod Stored
 pub mod Searches
 pub mod Starts
+pub mod Placing
 pub mod Keeping
 pub mod Added
+pub mod Raising
 pub mod Declaring
 pub mod Building
 pub mod Looking
 pub mod Joined
+pub mod Naming
+pub mod Laws
+pub mod Parting
+pub mod Steps

@@ -7,17 +7,14 @@ use Rattle.std.proofs.lemmas.List.{take_more, take_all, map-append, length-map}
 use borrow.Author.Count.{below_more}
 use Rattle.mm_classes.specs.declared.class.Base.{Base}
 use Rattle.mm_classes.specs.declared.class.Access.TheVariants.{Public}
-use Rattle.mm_paths.specs.declared.entry.Entry.{Entry}
 use Rattle.mm_classes.specs.declared.class.Member.{Member}
 use Rattle.mm_paths.specs.declared.entry.GraphEnd.{GraphEnd}
 use Rattle.mm_paths.specs.declared.entry.GraphEnd.TheVariants as end
 use Rattle.mm_classes.specs.Lists.{Has, first, later, Distinct}
-use Rattle.mm_classes.specs.Classes.{Class, class_at, unknown}
-use Rattle.mm_classes.specs.Adding.{AreKnown}
-use Rattle.mm_paths.specs.Ends.{classes_of, base_at, IsFine, AreDeclared, Stops, Ends}
-use Rattle.mm_paths.specs.Stored.{class_in, classes_in}
+use Rattle.mm_classes.specs.Classes.{Class, class_at}
+use Rattle.mm_classes.specs.Adding.{AreKnown, AreDeclared}
+use Rattle.mm_paths.specs.Ends.{classes_of, base_at, IsFine, Stops, Ends}
 use Rattle.mm_classes.proofs.Lists.{Has-append, Has-map, Distinct-append}
-use Rattle.mm_paths.proofs.Stored.{get_or-map}
 use Rattle.mm_classes.proofs.Answering.{Has-get_or, place_from_Has}
 
 abbrev nothing : Base
@@ -26,7 +23,7 @@ nothing = record { class = 0; shared = false; access = Public }
 pub names_more : (bs : List Base) (i : ℕ) → i < length bs → classes_of (take (i + 1) bs) ≡ classes_of (take i bs) ++ (base_at bs i).class ∷ []
 names_more bs i l = ap classes_of (take_more bs i nothing l) ∙ map-append (λ (b : Base). b.class) (take i bs) (base_at bs i ∷ [])
 
-base_same : (bs : List Base) (i : ℕ) (d : Base) → i < length bs → get_or bs i d ≡ base_at bs i
+pub base_same : (bs : List Base) (i : ℕ) (d : Base) → i < length bs → get_or bs i d ≡ base_at bs i
 base_same [] i d l = absurd (omega arith)
 base_same (b ∷ bs) zero d l = refl
 base_same (b ∷ bs) (suc i) d l = base_same bs i d (omega arith)
@@ -77,12 +74,6 @@ fine_here g bs n x e l a b = let k = e ∙ base_same bs n x l in
 pub fine_more : (g : List Class) (bs : List Base) (n : ℕ) → ((k : ℕ) → k < n → IsFine g bs k) → IsFine g bs n → (k : ℕ) → k < n + 1 → IsFine g bs k
 fine_more g bs n h here = below_more (IsFine g bs) n h here
 
-pub base_below : (es : List Entry) (bs : List Base) (n : ℕ) (x : Base) → x ≡ get_or bs n x → AreDeclared (classes_in es) bs → n < length bs → x.class < length es
-base_below es bs n x e d l = let k = subst (λ (z : Base). z.class < length (classes_in es)) (sym e) (d (get_or bs n x) (Has-get_or bs n x l)) in let z = length-map es class_in in omega (arith, k, z)
-
-pub complete_here : (es : List Entry) (b : ℕ) (x : Entry) (v : Bool) → b < length es → x ≡ get_or es b x → x.complete ≡ v → (class_at (classes_in es) b).complete ≡ v
-complete_here es b x v l e c = let k : (get_or es b x).complete ≡ v = sym (ap (λ (z : Entry). z.complete) e) ∙ c in ap (λ (z : Class). z.complete) (get_or-map class_in es b x unknown l) ∙ k
-
 pub ends_from : (g : List Class) (c : ℕ) (bs : List Base) (ms : List Member) (e : GraphEnd) → Stops g bs e → Ends g c bs ms e
 ends_from g c bs ms (end.Twice i) h = h
 ends_from g c bs ms (end.Unknown i) h = h
@@ -91,14 +82,3 @@ ends_from g c bs ms end.NoMemory h = absurd h
 
 pub declared_at : (g : List Class) (bs : List Base) (i : ℕ) (x : Base) → x ≡ get_or bs i x → i < length bs → AreDeclared g bs → x.class < length g
 declared_at g bs i x ex l d = subst (λ (z : Base). z.class < length g) (sym ex) (d (get_or bs i x) (Has-get_or bs i x l))
-
--- bases whose classes are declared, one by one
-pub declared_more : (g : List Class) (bs : List Base) (i : ℕ) (x : Base) → x ≡ get_or bs i x → i < length bs → AreDeclared g (take i bs) → x.class < length g → AreDeclared g (take (i + 1) bs)
-declared_more g bs i x ex l h k b m =
-    elim (Has-append (take i bs) (x ∷ []) (subst (λ (z : List Base). Has z b) (take_more bs i x l ∙ ap (λ z. take i bs ++ z ∷ []) (sym ex)) m)) [
-      | inl a ↦ h b a
-      | inr r ↦ elim r [ first e ↦ subst (λ (z : Base). z.class < length g) e k | later w ↦ elim w [ ] ]
-    ]
-
-pub all_declared : (g : List Class) (bs : List Base) (i : ℕ) → length bs ≤ i → AreDeclared g (take i bs) → AreDeclared g bs
-all_declared g bs i l h b m = h b (subst (λ (z : List Base). Has z b) (sym (take_all i bs l)) m)

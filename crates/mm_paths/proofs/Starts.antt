@@ -1,20 +1,22 @@
 -- Where the subobjects of each virtual base begin.
-use Rattle.std.proofs.Common.{◌≡◌, ℕ, zero, suc, ◌+◌, ◌-◌, ◌<◌, ◌≤◌, ◌^◌, List, [], ◌∷◌, ◌++◌, length, get_or, take, refl, sym, subst, ap, ap₂, ◌∙◌, arith, length-append}
-use Rattle.std.specs.Prelude.{true}
+use Rattle.std.proofs.Common.{◌≡◌, ℕ, zero, suc, ◌+◌, ◌-◌, ◌<◌, ◌≤◌, List, [], ◌∷◌, ◌++◌, length, get_or, take, drop, refl, sym, subst, ap, ap₂, ◌∙◌, inl, inr, arith, length-append}
+use Rattle.std.specs.Prelude.{true, ◌⊎◌}
 use Rattle.std.specs.List.{flat_map}
-use Rattle.std.proofs.lemmas.List.{length-map}
+use Rattle.std.proofs.lemmas.Grind.{flat_map-append}
+use Rattle.std.proofs.lemmas.List.{length-map, get_or_past, take-append-drop}
 use Rattle.mm_classes.specs.Lists.{Has, first, later}
-use Rattle.mm_classes.specs.Classes.{Class, class_at, IsClassList, IsComplete}
-use Rattle.mm_classes.specs.Subobjects.{Path, chains, virtual_bases, end_of, compose}
+use Rattle.mm_classes.specs.Classes.{Class, class_at, IsClassList}
+use Rattle.mm_classes.specs.Subobjects.{Path, chains, subobjects_of, virtual_bases, end_of, compose}
 use Rattle.mm_classes.specs.Questions.{node, IsNode, start_of}
 use Rattle.mm_classes.proofs.Growing.{virtual_bases-kept, chains-all_kept, virtual_bases_complete}
 use Rattle.mm_classes.proofs.Places.{place_on, place_anew, head_virtual}
-use Rattle.mm_paths.specs.declared.entry.Entry.{Entry}
 use Rattle.mm_paths.specs.declared.entry.Node.{Node}
 use Rattle.mm_paths.specs.declared.entry.Parts.{Parts}
-use Rattle.mm_paths.specs.Stored.{classes_in, paths_in, IsStored, starts_from, starts_of, ArePartsOf, IsStart}
-use Rattle.mm_paths.proofs.Stored.{valid_list, few_at}
+use Rattle.mm_paths.specs.Stored.{paths_in, starts_from, starts_of, ArePartsOf, IsStart}
 use Rattle.mm_paths.proofs.Building.{take_at_more}
+
+pub low_or : (m n : ℕ) → (m < n) ⊎ (n ≤ m)
+low_or m n = grind arith
 
 pub starts-same : (f h : ℕ → List Path) (n : ℕ) (vs : List ℕ) → ((v : ℕ) → Has vs v → f v ≡ h v) → starts_from f n vs ≡ starts_from h n vs
 starts-same f h n [] e = refl
@@ -52,6 +54,21 @@ pub starts-kept : (g g' : List Class) (ok : IsClassList g) → length g ≤ leng
 starts-kept g g' ok longer same x k =
     ap₂ (λ (n : ℕ) (vs : List ℕ). starts_from (chains g' (length g')) n vs) (ap length (chains-all_kept g g' ok longer same x k)) (virtual_bases-kept g g' ok longer same x k)
     ∙ starts-same (chains g' (length g')) (chains g (length g)) (length (chains g (length g) x)) (virtual_bases g x) (λ v h. chains-all_kept g g' ok longer same v (virtual_bases_complete g ok x v h))
+
+-- each start is a number of a node, or the number past the last
+pub starts-low : (g : List Class) (d j : ℕ) → length (subobjects_of g d) ≤ 256 → get_or (starts_of g d) j 0 ≤ 256
+starts-low g d j few = elim (low_or j (length (virtual_bases g d))) [
+  | inl l ↦ (
+      let f = chains g (length g) in
+      let vs = virtual_bases g d in
+      let s : get_or (starts_of g d) j 0 ≡ length (f d) + length (flat_map f (take j vs)) = starts-at f (length (f d)) vs j l in
+      let e : length (flat_map f vs) ≡ length (flat_map f (take j vs)) + length (flat_map f (drop j vs)) =
+      ap (λ z. length (flat_map f z)) (sym (take-append-drop j vs)) ∙ (ap length (flat_map-append f (take j vs) (drop j vs)) ∙ length-append (flat_map f (take j vs)) (flat_map f (drop j vs))) in
+      let a : length (subobjects_of g d) ≡ length (f d) + length (flat_map f vs) = length-append (f d) (flat_map f vs) in omega arith)
+  | inr l ↦ (
+      let k = starts-long (chains g (length g)) (length (chains g (length g) d)) (virtual_bases g d) in
+      let e : get_or (starts_of g d) j 0 ≡ 0 = get_or_past (starts_of g d) j 0 (omega arith) in omega arith)
+]
 
 pub start_is : (g : List Class) (c v r : ℕ) (p : Parts) (shared starts : List ℕ) → ArePartsOf g c p → shared ≡ p.shared.items → starts ≡ p.starts.items
     → (k : ℕ) × (k < length shared) × (get_or shared k 0 ≡ v) × (r ≡ get_or starts k 0) → IsStart g c v r
@@ -91,36 +108,3 @@ module _ (g : List Class) (ok : IsClassList g) (d n m c : ℕ) (hn : IsNode g d 
       let k = place_anew g ok d n m a'.0 b.0 v hn hm (let z = ap (λ x. length (chains g (length g) x)) ec in omega arith) (f ∙ ap (λ z. get_or z 0 v) (p ∙ ap (λ x. node g x m) ec)) a'.1 a'.2 b.1 b.2 in
       let i : start_of g d b.0 + (m - start_of g (end_of (node g d n)) a'.0) ≡ s + (m - r) = (let y = a'.3 in let z = b.3 in ap₂ (λ p q. p + (m - q)) (sym z) (sym y)) in
       ((let y = a'.3 in let z = k.0 in omega arith), subst (λ x. IsNode g d x) i k.1, ap (node g d) (sym i) ∙ k.2)
-
--- the same, of what a graph keeps
-module _ (es en : List Entry) (g : List Class) (s : IsStored es) (v : classes_in es ≡ g) (same : en ≡ es) (d n m c : ℕ) (k : IsComplete g d)
-    (hn : IsNode g d n) (hm : IsNode g (end_of (node g d n)) m) (ec : c ≡ end_of (node g d n)) (own : ℕ) (eo : own ≡ length (chains (classes_in en) (length (classes_in en)) c)) where
-  list_is : classes_in en ≡ g
-  list_is = ap classes_in same ∙ v
-
-  own_is : own ≡ length (chains g (length g) c)
-  own_is = eo ∙ ap (λ (x : List Class). length (chains x (length x) c)) list_is
-
-  pub kept_on : (n' m' : ℕ) → n' ≡ n → m' ≡ m → m' < own
-      → (n' + m' < 2 ^ 32) × IsNode g d (n' + m') × (node g d (n' + m') ≡ compose (node g d n) (node g (end_of (node g d n)) m))
-  kept_on n' m' en' em' l =
-      let r = composed_on g (valid_list es g s v) d n m c hn hm ec own own_is (omega arith) in
-      let i : n + m ≡ n' + m' = omega arith in
-      let node_in : IsNode g d (n' + m') = subst (IsNode g d) i r.0 in
-      ((let f = few_at es g d s v k in let z = node_in in omega arith), node_in, ap (node g d) (sym i) ∙ r.1)
-
-  pub kept_head : (m' head : ℕ) (path : List ℕ) → m' ≡ m → own ≤ m' → path ≡ node g c m → head ≡ get_or path 0 head
-      → Has (virtual_bases (classes_in en) c) head × Has (virtual_bases (classes_in en) d) head
-  kept_head m' head path em l p f =
-      let r = head_in g (valid_list es g s v) d n m c hn hm ec own head path own_is (omega arith) p f in
-      (subst (λ (x : List Class). Has (virtual_bases x c) head) (sym list_is) r.0, subst (λ (x : List Class). Has (virtual_bases x d) head) (sym list_is) r.1)
-
-  pub kept_anew : (m' head from to : ℕ) (path : List ℕ) → m' ≡ m → own ≤ m' → path ≡ node g c m → head ≡ get_or path 0 head
-      → IsStart (classes_in en) c head from → IsStart (classes_in en) d head to
-      → (from ≤ m') × (to + (m' - from) < 2 ^ 32) × IsNode g d (to + (m' - from)) × (node g d (to + (m' - from)) ≡ compose (node g d n) (node g (end_of (node g d n)) m))
-  kept_anew m' head from to path em l p f a b =
-      let r = composed_anew g (valid_list es g s v) d n m c hn hm ec own head from to path own_is (omega arith) p f
-      (subst (λ (x : List Class). IsStart x c head from) list_is a) (subst (λ (x : List Class). IsStart x d head to) list_is b) in
-      let i : to + (m - from) ≡ to + (m' - from) = ap (λ x. to + (x - from)) (sym em) in
-      let node_in : IsNode g d (to + (m' - from)) = subst (IsNode g d) i r.1 in
-      ((let z = r.0 in omega arith), (let q = few_at es g d s v k in let z = node_in in omega arith), node_in, ap (node g d) (sym i) ∙ r.2)

@@ -9,6 +9,8 @@ use Rattle.mm_classes.specs.Subobjects.{Path, subobjects_of}
 use Rattle.mm_classes.specs.Adding.{added}
 use Rattle.mm_paths.specs.declared.entry.GraphEnd.{GraphEnd}
 use Rattle.mm_paths.specs.declared.entry.GraphEnd.TheVariants as end
+use Rattle.mm_paths.specs.declared.entry.MakeEnd.{MakeEnd}
+use Rattle.mm_paths.specs.declared.entry.MakeEnd.TheVariants as made
 
 -- what a base with these subobjects gives to a class
 abbrev pub plain_block : ℕ → Base → List Path → List Path
@@ -21,10 +23,6 @@ classes_of bs = map (λ (b : Base). b.class) bs
 -- the i-th base
 abbrev pub base_at : List Base → ℕ → Base
 base_at bs i = get_or bs i (record { class = 0; shared = false; access = Public })
-
--- all bases are of declared classes
-abbrev pub AreDeclared : List Class → List Base → Type 0
-AreDeclared g bs = (b : Base) → Has bs b → b.class < length g
 
 -- the class of the i-th base is no earlier one's, and it is complete
 abbrev pub IsFine : List Class → List Base → ℕ → Type 0
@@ -51,3 +49,8 @@ Ends g c bs ms (end.Twice i) = Stops g bs (end.Twice i)
 Ends g c bs ms (end.Unknown i) = Stops g bs (end.Unknown i)
 Ends g c bs ms end.Many = AreFine g bs × AreTooMany g c bs ms
 Ends g c bs ms end.NoMemory = Unit {0}
+
+-- the end of `add`, by that of the making
+abbrev pub as_graph_end : MakeEnd → GraphEnd
+as_graph_end made.Many = end.Many
+as_graph_end made.NoMemory = end.NoMemory

@@ -1,2 +1,4 @@
 pub mod Stored
+pub mod Names
+pub mod Reach
 pub mod Ends

@@ -1,93 +1,25 @@
 //! What a new class has, from what its bases have.
 
-ghost use Rattle.std.specs.Prelude.{◌≡◌, ◌≢◌, ◌<◌, ◌≤◌, ◌+◌, ◌^◌, ◌⊎◌, ℕ, List, [], ◌∷◌, ◌++◌, length, get_or, map, Bool, true, false, IfOk, IfErr, OnOk, OnErr, None, string_bytes};
-ghost use Rattle.indexmap.specs.IndexSet.{contains_text};
+ghost use Rattle.std.specs.Prelude.{◌≡◌, ◌≢◌, ◌<◌, ◌≤◌, ◌+◌, ◌^◌, ◌⊎◌, ℕ, List, [], ◌∷◌, ◌++◌, length, get_or, map, Bool, true, false, IfOk, IfErr, OnOk, OnErr};
 ghost use Rattle.std.specs.List.{flat_map};
 ghost use Rattle.std.specs.Bool.{Decides};
 ghost use Rattle.mm_classes.specs.declared.class.Base.{Base};
 ghost use Rattle.mm_classes.specs.Lists.{Has, with_new, with_all_new};
-ghost use Rattle.mm_classes.specs.Classes.{IsComplete, depth_of, IsPolymorphic, field_count};
-ghost use Rattle.mm_classes.specs.Subobjects.{Path, met, chains, virtual_bases};
-ghost use Rattle.mm_classes.specs.Adding.{new_virtual_bases, new_chains, new_subobjects, new_depth, IsNewPolymorphic, AreKnown, fresh};
-ghost use Rattle.mm_paths.specs.declared.entry.Entry.{Entry};
-ghost use Rattle.mm_paths.specs.Ends.{plain_block, classes_of, AreFine, Stops, AreDeclared};
-ghost use Rattle.mm_paths.specs.Stored.{paths_in, class_in, classes_in, IsStored, AreNewParts, starts_from, new_starts, IsStart};
+ghost use Rattle.mm_classes.specs.Classes.{IsClassList, IsComplete, IsPolymorphic, field_count};
+ghost use Rattle.mm_classes.specs.Subobjects.{Path, met, chains};
+ghost use Rattle.mm_classes.specs.Adding.{new_virtual_bases, new_chains, new_subobjects, new_depth, IsNewPolymorphic, AreKnown, AreDeclared, CanAdd};
+ghost use Rattle.mm_paths.specs.Ends.{plain_block, classes_of, AreFine, Stops};
+ghost use Rattle.mm_paths.specs.Stored.{paths_in, AreNewParts, starts_from, new_starts};
 
-use crate::entry::{Entry, GraphEnd, MakeEnd, Node, Nodes, Parts};
-use crate::find::start_among;
-use indexmap::IndexSet;
-use mm_base::text::Text;
+use crate::entry::{GraphEnd, MakeEnd, Node, Nodes, Parts};
+use crate::graph::Graph;
+use crate::names::{named, no_names};
+use crate::reach::new_access;
 use mm_classes::class::{Base, Member};
-use mm_classes::copies::{any_virtual, copy_members, count_fields};
+use mm_classes::copies::{any_virtual, count_fields};
 use mm_classes::id::ClassId;
 use smallvec::SmallVec;
 use std::alloc::{AllocError, Global};
-
-/// The entry of a class.
-pub fn entry_at(entries: &[Entry], c: ClassId) -> &Entry
-    requires { c < length entries.now }
-    ensures { result.now ≡ get_or entries.now c result.now }
-{
-    &entries[c.number as usize]
-}
-
-/// The depth of a class.
-pub fn depth_at(entries: &[Entry], c: ClassId) -> usize
-    requires stored { IsStored entries.now }
-    requires complete { IsComplete (classes_in entries.now) c }
-    ensures depth { result ≡ depth_of (classes_in entries.now) c }
-    ensures low { result ≤ length entries.now }
-{
-    entry_at(entries, c).parts.depth
-}
-
-/// Whether a class is polymorphic.
-pub fn polymorphic_at(entries: &[Entry], c: ClassId) -> bool
-    requires stored { IsStored entries.now }
-    requires complete { IsComplete (classes_in entries.now) c }
-    ensures { Decides result (IsPolymorphic (classes_in entries.now) c) }
-{
-    entry_at(entries, c).parts.polymorphic
-}
-
-/// The virtual bases of a class.
-pub fn shared_of(entries: &[Entry], c: ClassId) -> &[ClassId]
-    requires stored { IsStored entries.now }
-    requires complete { IsComplete (classes_in entries.now) c }
-    ensures { result.now ≡ virtual_bases (classes_in entries.now) c }
-{
-    entry_at(entries, c).parts.shared.as_slice()
-}
-
-/// The nodes of a class that begin with it.
-pub fn own_of(entries: &[Entry], c: ClassId) -> &[Node]
-    requires stored { IsStored entries.now }
-    requires complete { IsComplete (classes_in entries.now) c }
-    ensures { paths_in result.now ≡ chains (classes_in entries.now) (length (classes_in entries.now)) c }
-{
-    let parts = &entry_at(entries, c).parts;
-    &parts.nodes[..parts.own]
-}
-
-/// How many nodes of a class begin with it.
-pub fn own_count(entries: &[Entry], c: ClassId) -> usize
-    requires stored { IsStored entries.now }
-    requires complete { IsComplete (classes_in entries.now) c }
-    ensures { result ≡ length (chains (classes_in entries.now) (length (classes_in entries.now)) c) }
-{
-    entry_at(entries, c).parts.own
-}
-
-/// The number of the first node of a class that begins with one of its virtual bases.
-pub fn start_in(entries: &[Entry], c: ClassId, v: ClassId) -> usize
-    requires stored { IsStored entries.now }
-    requires complete { IsComplete (classes_in entries.now) c }
-    requires has { Has (virtual_bases (classes_in entries.now) c) v }
-    ensures { IsStart (classes_in entries.now) c v result }
-{
-    let parts = &entry_at(entries, c).parts;
-    start_among(parts.shared.as_slice(), parts.starts.as_slice(), v)
-}
 
 /// Puts a number at the end, where it is not there yet.
 pub fn push_new(seen: &mut Vec<ClassId>, x: ClassId) -> Result<(), AllocError>
@@ -122,20 +54,15 @@ pub fn push_base(seen: &mut Vec<ClassId>, base: &Base, more: &[ClassId]) -> Resu
 }
 
 /// The virtual bases of a class with these bases.
-pub fn new_shared(
-    alloc: Global,
-    entries: &[Entry],
-    bases: &[Base],
-) -> Result<Vec<ClassId>, AllocError>
-    requires stored { IsStored entries.now }
-    requires known { AreKnown (classes_in entries.now) bases.now }
-    ensures { IfOk result (λ v. v.items ≡ new_virtual_bases (classes_in entries.now) bases.now) }
+pub fn new_shared(alloc: Global, graph: &Graph, bases: &[Base]) -> Result<Vec<ClassId>, AllocError>
+    requires known { AreKnown graph.now bases.now }
+    ensures { IfOk result (λ v. v.items ≡ new_virtual_bases graph.now bases.now) }
 {
     let mut seen = Vec::new(alloc);
     let mut n = 0;
     while n < bases.len() {
         let base = bases[n];
-        push_base(&mut seen, &base, shared_of(entries, base.class))?;
+        push_base(&mut seen, &base, graph.virtual_bases(base.class))?;
         n += 1;
     }
     Ok(seen)
@@ -167,12 +94,8 @@ pub fn push_block(
         if nodes.len() >= 256 {
             return Err(MakeEnd::Many);
         }
-        let Ok(node) = joined_node(alloc, front, from[k].path.as_slice()) else {
-            return Err(MakeEnd::NoMemory);
-        };
-        let Ok(()) = nodes.push(node) else {
-            return Err(MakeEnd::NoMemory);
-        };
+        let node = joined_node(alloc, front, from[k].path.as_slice())?;
+        nodes.push(node).map_err(AllocError::from)?;
         k += 1;
     }
     Ok(())
@@ -200,28 +123,21 @@ pub fn push_plain(
 /// The nodes of a new class that begin with it.
 pub fn new_own(
     alloc: Global,
-    entries: &[Entry],
+    graph: &Graph,
     class: ClassId,
     bases: &[Base],
 ) -> Result<Vec<Node>, MakeEnd>
-    requires stored { IsStored entries.now }
-    requires known { AreKnown (classes_in entries.now) bases.now }
-    ensures ok { IfOk result (λ v. (paths_in v.items ≡ new_chains (classes_in entries.now) class bases.now) × (length v.items ≤ 256)) }
-    ensures many { IfErr result (λ end. end ≡ MakeEnd.Many → 256 < length (new_chains (classes_in entries.now) class bases.now)) }
+    requires known { AreKnown graph.now bases.now }
+    ensures ok { IfOk result (λ v. (paths_in v.items ≡ new_chains graph.now class bases.now) × (length v.items ≤ 256)) }
+    ensures many { IfErr result (λ end. end ≡ MakeEnd.Many → 256 < length (new_chains graph.now class bases.now)) }
 {
     let mut nodes = Vec::new(alloc);
-    let Ok(node) = joined_node(alloc, &[class], &[]) else {
-        return Err(MakeEnd::NoMemory);
-    };
-    let Ok(()) = nodes.push(node) else {
-        return Err(MakeEnd::NoMemory);
-    };
+    let node = joined_node(alloc, &[class], &[])?;
+    nodes.push(node).map_err(AllocError::from)?;
     let mut n = 0;
     while n < bases.len() {
         let base = bases[n];
-        if let Err(end) = push_plain(alloc, &mut nodes, class, &base, own_of(entries, base.class)) {
-            return Err(end);
-        }
+        push_plain(alloc, &mut nodes, class, &base, graph.own(base.class))?;
         n += 1;
     }
     Ok(nodes)
@@ -231,42 +147,36 @@ pub fn new_own(
 pub fn push_shared(
     alloc: Global,
     nodes: &mut Vec<Node>,
-    entries: &[Entry],
+    graph: &Graph,
     shared: &[ClassId],
 ) -> Result<Vec<usize>, MakeEnd>
-    requires stored { IsStored entries.now }
-    requires complete { (v : ℕ) → Has shared.now v → IsComplete (classes_in entries.now) v }
+    requires complete { (v : ℕ) → Has shared.now v → IsComplete graph.now v }
     requires few { length nodes.old.items ≤ 256 }
-    ensures ok { OnOk result (paths_in nodes.new.items ≡ paths_in nodes.old.items ++ flat_map (chains (classes_in entries.now) (length (classes_in entries.now))) shared.now) }
+    ensures ok { OnOk result (paths_in nodes.new.items ≡ paths_in nodes.old.items ++ flat_map (chains graph.now (length graph.now)) shared.now) }
     ensures few { length nodes.new.items ≤ 256 }
-    ensures starts { IfOk result (λ s. s.items ≡ starts_from (chains (classes_in entries.now) (length (classes_in entries.now))) (length nodes.old.items) shared.now) }
-    ensures many { IfErr result (λ end. end ≡ MakeEnd.Many → 256 < length nodes.old.items + length (flat_map (chains (classes_in entries.now) (length (classes_in entries.now))) shared.now)) }
+    ensures starts { IfOk result (λ s. s.items ≡ starts_from (chains graph.now (length graph.now)) (length nodes.old.items) shared.now) }
+    ensures many { IfErr result (λ end. end ≡ MakeEnd.Many → 256 < length nodes.old.items + length (flat_map (chains graph.now (length graph.now)) shared.now)) }
 {
     let mut starts = Vec::new(alloc);
     let mut n = 0;
     while n < shared.len() {
-        let Ok(()) = starts.push(nodes.len()) else {
-            return Err(MakeEnd::NoMemory);
-        };
-        if let Err(end) = push_block(alloc, nodes, &[], own_of(entries, shared[n])) {
-            return Err(end);
-        }
+        starts.push(nodes.len()).map_err(AllocError::from)?;
+        push_block(alloc, nodes, &[], graph.own(shared[n]))?;
         n += 1;
     }
     Ok(starts)
 }
 
 /// The depth of a class with these bases.
-pub fn new_depth_of(entries: &[Entry], bases: &[Base]) -> usize
-    requires stored { IsStored entries.now }
-    requires known { AreKnown (classes_in entries.now) bases.now }
-    ensures { result ≡ new_depth (classes_in entries.now) bases.now }
+pub fn new_depth_of(graph: &Graph, bases: &[Base]) -> usize
+    requires known { AreKnown graph.now bases.now }
+    ensures { result ≡ new_depth graph.now bases.now }
 {
     let mut depth = 0;
     let mut n = 0;
     while n < bases.len() {
         let base = bases[n];
-        let above = depth_at(entries, base.class) + 1;
+        let above = graph.depth(base.class) as usize + 1;
         depth = above.max(depth);
         n += 1;
     }
@@ -274,15 +184,14 @@ pub fn new_depth_of(entries: &[Entry], bases: &[Base]) -> usize
 }
 
 /// Whether one of the bases is polymorphic.
-pub fn any_polymorphic(entries: &[Entry], bases: &[Base]) -> bool
-    requires stored { IsStored entries.now }
-    requires known { AreKnown (classes_in entries.now) bases.now }
-    ensures { Decides result ((b : Base) × Has bases.now b × IsPolymorphic (classes_in entries.now) b.class) }
+pub fn any_polymorphic(graph: &Graph, bases: &[Base]) -> bool
+    requires known { AreKnown graph.now bases.now }
+    ensures { Decides result ((b : Base) × Has bases.now b × IsPolymorphic graph.now b.class) }
 {
     let mut n = 0;
     while n < bases.len() {
         let base = bases[n];
-        if polymorphic_at(entries, base.class) {
+        if graph.is_polymorphic(base.class) {
             return true;
         }
         n += 1;
@@ -291,86 +200,87 @@ pub fn any_polymorphic(entries: &[Entry], bases: &[Base]) -> bool
 }
 
 /// Whether a class with these bases and members is polymorphic.
-pub fn is_new_polymorphic(entries: &[Entry], bases: &[Base], members: &[Member]) -> bool
-    requires stored { IsStored entries.now }
-    requires known { AreKnown (classes_in entries.now) bases.now }
-    ensures { Decides result (IsNewPolymorphic (classes_in entries.now) bases.now members.now) }
+pub fn is_new_polymorphic(graph: &Graph, bases: &[Base], members: &[Member]) -> bool
+    requires known { AreKnown graph.now bases.now }
+    ensures { Decides result (IsNewPolymorphic graph.now bases.now members.now) }
 {
     if any_virtual(members) {
         return true;
     }
-    any_polymorphic(entries, bases)
+    any_polymorphic(graph, bases)
 }
 
 /// The nodes of a new class.
 pub fn new_nodes(
     alloc: Global,
-    entries: &[Entry],
+    graph: &Graph,
     class: ClassId,
     bases: &[Base],
-    shared: &[ClassId],
 ) -> Result<Nodes, MakeEnd>
-    requires stored { IsStored entries.now }
-    requires known { AreKnown (classes_in entries.now) bases.now }
-    requires shared { shared.now ≡ new_virtual_bases (classes_in entries.now) bases.now }
-    ensures nodes { IfOk result (λ r. paths_in r.all.items ≡ new_subobjects (classes_in entries.now) class bases.now) }
+    requires valid { IsClassList graph.now }
+    requires known { AreKnown graph.now bases.now }
+    ensures nodes { IfOk result (λ r. paths_in r.all.items ≡ new_subobjects graph.now class bases.now) }
     ensures few { IfOk result (λ r. length r.all.items ≤ 256) }
-    ensures own { IfOk result (λ r. r.own ≡ length (new_chains (classes_in entries.now) class bases.now)) }
-    ensures starts { IfOk result (λ r. r.starts.items ≡ new_starts (classes_in entries.now) class bases.now) }
-    ensures many { IfErr result (λ end. end ≡ MakeEnd.Many → 256 < length (new_subobjects (classes_in entries.now) class bases.now)) }
+    ensures own { IfOk result (λ r. r.own ≡ length (new_chains graph.now class bases.now)) }
+    ensures shared { IfOk result (λ r. r.shared.items ≡ new_virtual_bases graph.now bases.now) }
+    ensures starts { IfOk result (λ r. r.starts.items ≡ new_starts graph.now class bases.now) }
+    ensures many { IfErr result (λ end. end ≡ MakeEnd.Many → 256 < length (new_subobjects graph.now class bases.now)) }
 {
-    let mut all = match new_own(alloc, entries, class, bases) {
-        Ok(nodes) => nodes,
-        Err(end) => return Err(end),
-    };
+    let shared = new_shared(alloc, graph, bases)?;
+    let mut all = new_own(alloc, graph, class, bases)?;
     let own = all.len();
-    match push_shared(alloc, &mut all, entries, shared) {
-        Ok(starts) => Ok(Nodes { all, own, starts }),
-        Err(end) => Err(end),
-    }
+    let starts = push_shared(alloc, &mut all, graph, shared.as_slice())?;
+    Ok(Nodes {
+        all,
+        own,
+        shared,
+        starts,
+    })
 }
 
 /// Makes the parts of a new class.
 pub fn make(
     alloc: Global,
-    entries: &[Entry],
+    graph: &Graph,
     class: ClassId,
     bases: &[Base],
     members: &[Member],
 ) -> Result<Parts, MakeEnd>
-    requires stored { IsStored entries.now }
-    requires known { AreKnown (classes_in entries.now) bases.now }
-    ensures made { IfOk result (AreNewParts (classes_in entries.now) class bases.now members.now) }
-    ensures many { IfErr result (λ end. end ≡ MakeEnd.Many → (256 < length (new_subobjects (classes_in entries.now) class bases.now)) ⊎ (2 ^ 19 < field_count members.now)) }
+    requires valid { IsClassList graph.now }
+    requires can { CanAdd graph.now class bases.now members.now }
+    ensures made { IfOk result (AreNewParts graph.now class bases.now members.now) }
+    ensures many { IfErr result (λ end. end ≡ MakeEnd.Many → (256 < length (new_subobjects graph.now class bases.now)) ⊎ (2 ^ 19 < field_count members.now)) }
 {
     if count_fields(members) > 524_288 {
         return Err(MakeEnd::Many);
     }
-    let Ok(shared) = new_shared(alloc, entries, bases) else {
-        return Err(MakeEnd::NoMemory);
-    };
-    let nodes = match new_nodes(alloc, entries, class, bases, shared.as_slice()) {
-        Ok(nodes) => nodes,
-        Err(end) => return Err(end),
-    };
-    let depth = new_depth_of(entries, bases);
-    let polymorphic = is_new_polymorphic(entries, bases, members);
-    let Ok(bases) = bases.to_vec(alloc) else {
-        return Err(MakeEnd::NoMemory);
-    };
-    let Ok(members) = copy_members(alloc, members) else {
-        return Err(MakeEnd::NoMemory);
-    };
+    let nodes = new_nodes(alloc, graph, class, bases)?;
+    let access = new_access(alloc, graph, class, bases, &nodes)?;
+    let named = named(alloc, members)?;
     Ok(Parts {
-        bases,
-        members,
         nodes: nodes.all,
         own: nodes.own,
-        shared,
+        shared: nodes.shared,
         starts: nodes.starts,
-        depth,
-        polymorphic,
+        access,
+        depth: new_depth_of(graph, bases),
+        polymorphic: is_new_polymorphic(graph, bases, members),
+        named,
     })
+}
+
+/// What is kept of a class that is not complete.
+pub fn no_parts(alloc: Global) -> Parts {
+    Parts {
+        nodes: Vec::new(alloc),
+        own: 0,
+        shared: Vec::new(alloc),
+        starts: Vec::new(alloc),
+        access: Vec::new(alloc),
+        depth: 0,
+        polymorphic: false,
+        named: no_names(alloc),
+    }
 }
 
 /// Whether a class is listed.
@@ -388,10 +298,10 @@ pub fn is_listed(bases: &[Base], class: ClassId) -> bool
 }
 
 /// The first base that is listed before, or not complete.
-pub fn look(entries: &[Entry], bases: &[Base]) -> Result<(), GraphEnd>
-    requires { AreDeclared (classes_in entries.now) bases.now }
-    ensures fine { OnOk result (AreFine (classes_in entries.now) bases.now) }
-    ensures ends { IfErr result (λ end. Stops (classes_in entries.now) bases.now end) }
+pub fn look(graph: &Graph, bases: &[Base]) -> Result<(), GraphEnd>
+    requires { AreDeclared graph.now bases.now }
+    ensures fine { OnOk result (AreFine graph.now bases.now) }
+    ensures ends { IfErr result (λ end. Stops graph.now bases.now end) }
 {
     let mut n = 0;
     while n < bases.len() {
@@ -399,52 +309,10 @@ pub fn look(entries: &[Entry], bases: &[Base]) -> Result<(), GraphEnd>
         if is_listed(&bases[..n], base.class) {
             return Err(GraphEnd::Twice(n));
         }
-        if !entry_at(entries, base.class).complete {
+        if !graph.is_complete(base.class) {
             return Err(GraphEnd::Unknown(n));
         }
         n += 1;
     }
-    Ok(())
-}
-
-/// A class of which the name alone is known.
-pub fn new_entry(alloc: Global, name: &str) -> Result<Entry, AllocError>
-    ensures { IfOk result (λ e. class_in e ≡ fresh name.now) }
-{
-    let name = Text::from_str(alloc, name)?;
-    Ok(Entry {
-        name,
-        complete: false,
-        parts: Parts {
-            bases: Vec::new(alloc),
-            members: Vec::new(alloc),
-            nodes: Vec::new(alloc),
-            own: 0,
-            shared: Vec::new(alloc),
-            starts: Vec::new(alloc),
-            depth: 0,
-            polymorphic: false,
-        },
-    })
-}
-
-/// Puts a new name at the end of both.
-pub fn push_named(
-    alloc: Global,
-    names: &mut IndexSet<String>,
-    entries: &mut Vec<Entry>,
-    name: &str,
-) -> Result<(), AllocError>
-    requires { contains_text names.old name.now ≡ false }
-    ensures names { OnOk result (map string_bytes names.new.keys ≡ map string_bytes names.old.keys ++ name.now ∷ []) }
-    ensures entries { OnOk result ((e : Entry) × (entries.new.items ≡ entries.old.items ++ e ∷ []) × (class_in e ≡ fresh name.now)) }
-    ensures old_names { OnErr result (names.new.keys ≡ names.old.keys) }
-    ensures old_entries { OnErr result (entries.new.items ≡ entries.old.items) }
-{
-    let entry = new_entry(alloc, name)?;
-    let key = String::from_str(alloc, name)?;
-    entries.reserve(1)?;
-    names.insert(key)?;
-    entries.push_reserved(entry);
     Ok(())
 }

@@ -1,9 +1,10 @@
 //! What a graph keeps of each class.
 
-use mm_base::text::Text;
-use mm_classes::class::{Base, Member};
+use indexmap::IndexMap;
+use mm_classes::class::Access;
 use mm_classes::id::ClassId;
 use smallvec::SmallVec;
+use std::alloc::AllocError;
 
 /// A subobject: the classes of its path.
 #[derive(Drop)]
@@ -11,11 +12,18 @@ pub struct Node {
     pub path: SmallVec<ClassId, 8>,
 }
 
+/// The members of a class by their names.
+#[derive(Drop)]
+pub struct Named {
+    /// The number of the first member of each name.
+    pub first: IndexMap<String, u32>,
+    /// For each member the number of the next one of its name.
+    pub next: Vec<Option<u32>>,
+}
+
 /// What is kept of a complete class.
 #[derive(Drop)]
 pub struct Parts {
-    pub bases: Vec<Base>,
-    pub members: Vec<Member>,
     /// The subobjects, in order.
     pub nodes: Vec<Node>,
     /// How many of the nodes begin with the class itself.
@@ -24,25 +32,21 @@ pub struct Parts {
     pub shared: Vec<ClassId>,
     /// For each virtual base the number of the first node that begins with it.
     pub starts: Vec<usize>,
+    /// For each node the access that a public member of it has in the class.
+    pub access: Vec<Option<Access>>,
     /// The number of links in the longest chain of bases.
     pub depth: usize,
     pub polymorphic: bool,
+    pub named: Named,
 }
 
-/// The nodes of a class, with the numbers at which they begin with another class.
+/// The nodes of a class, with the numbers at which they begin with another class, its virtual bases.
 #[derive(Drop)]
 pub struct Nodes {
     pub all: Vec<Node>,
     pub own: usize,
+    pub shared: Vec<ClassId>,
     pub starts: Vec<usize>,
-}
-
-/// A declared class.
-#[derive(Drop)]
-pub struct Entry {
-    pub name: Text,
-    pub complete: bool,
-    pub parts: Parts,
 }
 
 /// Why a class is not added.
@@ -62,4 +66,40 @@ pub enum GraphEnd {
 pub enum MakeEnd {
     Many,
     NoMemory,
+}
+
+impl From<AllocError> for MakeEnd {
+    ghost use Rattle.std.specs.Prelude.{◌≡◌};
+    ghost use Rattle.mm_paths.specs.declared.entry.MakeEnd.TheVariants.{NoMemory};
+
+    ghost from_gives = { λ _ e. e ≡ NoMemory };
+
+    fn from(_error: AllocError) -> MakeEnd {
+        MakeEnd::NoMemory
+    }
+}
+
+impl From<AllocError> for GraphEnd {
+    ghost use Rattle.std.specs.Prelude.{◌≡◌};
+    ghost use Rattle.mm_paths.specs.declared.entry.GraphEnd.TheVariants.{NoMemory};
+
+    ghost from_gives = { λ _ e. e ≡ NoMemory };
+
+    fn from(_error: AllocError) -> GraphEnd {
+        GraphEnd::NoMemory
+    }
+}
+
+impl From<MakeEnd> for GraphEnd {
+    ghost use Rattle.std.specs.Prelude.{◌≡◌};
+    ghost use Rattle.mm_paths.specs.Ends.{as_graph_end};
+
+    ghost from_gives = { λ m e. e ≡ as_graph_end m };
+
+    fn from(end: MakeEnd) -> GraphEnd {
+        match end {
+            MakeEnd::Many => GraphEnd::Many,
+            MakeEnd::NoMemory => GraphEnd::NoMemory,
+        }
+    }
 }

@@ -1,6 +1,6 @@
 //! Searches among the nodes of a class.
 
-ghost use Rattle.std.specs.Prelude.{◌≡◌, ◌≢◌, ◌<◌, ◌≤◌, ◌+◌, ◌^◌, ℕ, List, [], ◌∷◌, ◌++◌, ◌⊎◌, length, get_or, Bool, true, false};
+ghost use Rattle.std.specs.Prelude.{◌≡◌, ◌<◌, ◌≤◌, ◌-◌, ◌^◌, ℕ, length, get_or, MatchOption};
 ghost use Rattle.std.specs.Bool.{Decides};
 ghost use Rattle.mm_classes.specs.Lists.{Has};
 ghost use Rattle.mm_classes.specs.Subobjects.{end_of};
@@ -40,6 +40,19 @@ pub fn node_id(place: usize) -> NodeId
     }
 }
 
+/// How far a number lies behind another, where that is less than a bound.
+pub fn close_by(t: NodeId, s: NodeId, bound: usize) -> Option<NodeId>
+    ensures { MatchOption result (t ≤ s → bound ≤ s - t) (λ m. (t ≤ s) × (m ≡ s - t) × (m < bound)) }
+{
+    if t.number <= s.number {
+        let m = s.number - t.number;
+        if (m as usize) < bound {
+            return Some(NodeId { number: m });
+        }
+    }
+    None
+}
+
 /// The answer so far, with one more number that fits or not.
 pub fn pick(found: Up, n: NodeId, fits: bool) -> Up
     ensures { result ≡ picked found n fits }
@@ -54,33 +67,11 @@ pub fn pick(found: Up, n: NodeId, fits: bool) -> Up
     }
 }
 
-/// Whether a path begins with another.
-pub fn starts(part: &[ClassId], whole: &[ClassId]) -> bool
-    ensures { Decides result ((u : List ℕ) × (part.now ≡ whole.now ++ u)) }
-{
-    if part.len() < whole.len() {
-        return false;
-    }
-    let head = &part[..whole.len()];
-    head == whole
-}
-
 /// Whether a number is among others.
 pub fn among(xs: &[ClassId], x: ClassId) -> bool
     ensures { Decides result (Has xs.now x) }
 {
     xs.contains(&x)
-}
-
-/// Whether a path goes on from `whole`, or begins at one of these virtual bases.
-pub fn goes_from(whole: &[ClassId], part: &[ClassId], shared: &[ClassId]) -> bool
-    requires { 0 < length part.now }
-    ensures { Decides result (((u : List ℕ) × (part.now ≡ whole.now ++ u)) ⊎ Has shared.now (get_or part.now 0 0)) }
-{
-    if starts(part, whole) {
-        return true;
-    }
-    among(shared, part[0])
 }
 
 /// The same answer, of subobjects that contain one.

@@ -1,30 +1,36 @@
 //! The graph of all declared classes.
 
-ghost use Rattle.std.specs.Prelude.{◌≡◌, ◌<◌, ◌≤◌, ◌^◌, ◌-◌, ◌⊎◌, ℕ, List, [], ◌∷◌, ◌++◌, length, get_or, map, Bool, true, false, IfOk, IfErr, OnOk, OnErr};
+ghost use Rattle.std.specs.Prelude.{◌≡◌, ◌<◌, ◌≤◌, ◌^◌, ◌-◌, ◌+◌, ◌⊎◌, ◌↔◌, ℕ, List, [], ◌∷◌, ◌++◌, length, get_or, map, Bool, true, false, IfOk, IfErr, OnOk, OnErr};
 ghost use Rattle.std.specs.Bool.{Decides};
 ghost use Rattle.mm_classes.specs.Lists.{Has, Distinct};
-ghost use Rattle.mm_classes.specs.Classes.{IsClassList, IsComplete, IsMemberList, class_at, bases_of, members_of, name_of, field_count, depth_of, IsPolymorphic, Derives};
-ghost use Rattle.mm_classes.specs.Subobjects.{IsSubobject, subobjects_of, end_of, IsWithin, compose as composed};
+ghost use Rattle.mm_classes.specs.Access.{IsAccess};
+ghost use Rattle.mm_classes.specs.Classes.{IsClassList, IsComplete, IsMemberList, AreTyped, IsNextNamed, member_name, class_at, bases_of, members_of, name_of, field_count, depth_of, IsPolymorphic, Derives};
+ghost use Rattle.mm_classes.specs.Subobjects.{IsSubobject, IsVirtual, chains, subobjects_of, end_of, IsWithin, compose as composed, virtual_bases as all_virtual_bases};
 ghost use Rattle.mm_classes.specs.Questions.{node, IsNode, Picks, IsUpOf, Surrounds, IsAroundOf};
-ghost use Rattle.mm_classes.specs.Laws.{AreNodes, Composes, Deepens};
-ghost use Rattle.mm_classes.specs.Adding.{added, AreKnown, IsNamed, declared};
-ghost use Rattle.mm_paths.specs.Ends.{AreDeclared, AreFine, AreTooMany, Ends, classes_of};
+ghost use Rattle.mm_classes.specs.Laws.{AreNodes, Composes, HasAccess, Deepens};
+ghost use Rattle.mm_classes.specs.Adding.{added, AreDeclared, CanAdd, IsNamed, declared};
+ghost use Rattle.mm_paths.specs.Ends.{AreFine, AreTooMany, Ends};
+ghost use Rattle.mm_paths.specs.Stored.{paths_in, ArePartsOf, HaveAccess, IsStart};
 
-use crate::build::{look, make, own_count, push_named, shared_of, start_in};
-use crate::entry::{Entry, GraphEnd, MakeEnd};
-use crate::find::{as_around, goes_from, node_id, path_end, pick};
-use indexmap::IndexSet;
+use crate::build::{look, make, no_parts};
+use crate::entry::{GraphEnd, MakeEnd, Node, Parts};
+use crate::find::{among, as_around, close_by, node_id, path_end, pick, start_among};
+use crate::reach::place_in;
+use mm_base::code::NoMemory;
+use mm_class_table::table::ClassTable;
 use mm_classes::answer::{Around, Up};
-use mm_classes::class::{Base, Member};
+use mm_classes::class::{Access, Base, Member};
+use mm_classes::copies::copy_members;
 use mm_classes::id::{ClassId, NodeId};
-use std::alloc::{AllocError, Global};
+use std::alloc::Global;
 use std::marker::Model;
 
-/// All classes that are declared, by number. To a contract it is its class list.
+/// All classes that are declared, by number, with the subobjects of each. To a contract it is its class list.
 #[derive(Drop)]
 pub struct Graph {
-    names: IndexSet<String>,
-    entries: Vec<Entry>,
+    alloc: Global,
+    table: ClassTable,
+    parts: Vec<Parts>,
 }
 
 impl Model for Graph {
@@ -33,11 +39,11 @@ impl Model for Graph {
 
     ghost Value = { List Class };
 
-    ghost use Rattle.mm_paths.specs.Stored.{classes_in, IsKept};
+    ghost use Rattle.mm_paths.specs.Stored.{IsStored};
 
-    ghost view = { λ g. classes_in g.entries.items };
+    ghost view = { λ g. g.table };
 
-    ghost invariant = { λ g. IsKept g.names.keys g.entries.items };
+    ghost invariant = { λ g. IsStored g.table g.parts.items };
 }
 
 impl Graph {
@@ -46,9 +52,29 @@ impl Graph {
         ensures { result ≡ [] }
     {
         Graph {
-            names: IndexSet::new(alloc),
-            entries: Vec::new(alloc),
+            alloc,
+            table: ClassTable::new(alloc),
+            parts: Vec::new(alloc),
         }
+    }
+
+    /// The classes alone.
+    pub fn table(&self) -> &ClassTable
+        ensures { result.now ≡ self.now }
+    {
+        &self.table
+    }
+
+    /// The classes alone; what the graph keeps of subobjects is given back.
+    pub fn into_table(self) -> ClassTable
+        ensures { result ≡ self }
+    {
+        let Graph {
+            alloc: _,
+            table,
+            parts: _,
+        } = self;
+        table
     }
 
     /// How many classes are declared: their numbers are those below it.
@@ -56,30 +82,23 @@ impl Graph {
         ensures count { result ≡ length self.now }
         ensures valid { IsClassList self.now }
         ensures laws { Composes self.now }
+        ensures access { HasAccess self.now }
     {
-        self.entries.len() as u32
+        self.table.classes()
     }
 
     /// Whether a class has this number.
     pub fn is_declared(&self, c: ClassId) -> bool
         ensures { Decides result (c < length self.now) }
     {
-        c.number < self.classes()
+        self.table.is_declared(c)
     }
 
     /// Whether all bases are of declared classes.
     pub fn are_declared(&self, bases: &[Base]) -> bool
         ensures { Decides result (AreDeclared self.now bases.now) }
     {
-        let mut n = 0;
-        while n < bases.len() {
-            let base = bases[n];
-            if !self.is_declared(base.class) {
-                return false;
-            }
-            n += 1;
-        }
-        true
+        self.table.are_declared(bases)
     }
 
     /// Whether the class has been added.
@@ -87,7 +106,7 @@ impl Graph {
         requires { c < length self.now }
         ensures { result ≡ (class_at self.now c).complete }
     {
-        self.entries[c.number as usize].complete
+        self.table.is_complete(c)
     }
 
     /// The name by which the class was declared.
@@ -95,7 +114,7 @@ impl Graph {
         requires { c < length self.now }
         ensures { result.now ≡ name_of self.now c }
     {
-        self.entries[c.number as usize].name.as_str()
+        self.table.name(c)
     }
 
     /// The direct bases, as they were added.
@@ -103,7 +122,7 @@ impl Graph {
         requires { c < length self.now }
         ensures { result.now ≡ bases_of self.now c }
     {
-        self.entries[c.number as usize].parts.bases.as_slice()
+        self.table.bases(c)
     }
 
     /// The members that the class declares, as they were added.
@@ -111,9 +130,22 @@ impl Graph {
         requires { c < length self.now }
         ensures members { result.now ≡ members_of self.now c }
         ensures apart { IsMemberList result.now }
+        ensures typed { AreTyped (length self.now) result.now }
         ensures fields { IsComplete self.now c → field_count result.now ≤ 2 ^ 19 }
     {
-        self.entries[c.number as usize].parts.members.as_slice()
+        // Read here, so that what is kept of the class is known.
+        let _parts = &self.parts;
+        self.table.members(c)
+    }
+
+    // What is kept of the class.
+    fn parts_of(&self, c: ClassId) -> &Parts
+        requires { IsComplete self.now c }
+        ensures parts { ArePartsOf self.now c result.now }
+        ensures valid { IsClassList self.now }
+        ensures count { length self.now < 2 ^ 32 }
+    {
+        &self.parts[c.number as usize]
     }
 
     /// How many subobjects the class has: the numbers of its nodes are those below it.
@@ -123,7 +155,7 @@ impl Graph {
         ensures few { result ≤ 256 }
         ensures nodes { AreNodes self.now d }
     {
-        self.entries[d.number as usize].parts.nodes.len() as u32
+        self.parts_of(d).nodes.len() as u32
     }
 
     /// The classes of the subobject's list.
@@ -135,9 +167,7 @@ impl Graph {
         ensures sub { IsSubobject self.now d result.now }
         ensures end { IsComplete self.now (end_of result.now) }
     {
-        self.entries[d.number as usize].parts.nodes[n.number as usize]
-            .path
-            .as_slice()
+        self.parts_of(d).nodes[n.number as usize].path.as_slice()
     }
 
     /// The class that the subobject is of.
@@ -150,13 +180,88 @@ impl Graph {
         path_end(self.path(d, n))
     }
 
+    /// The virtual bases of the class, each once, in the order in which a walk over its bases meets them.
+    pub fn virtual_bases(&self, c: ClassId) -> &[ClassId]
+        requires { IsComplete self.now c }
+        ensures order { result.now ≡ all_virtual_bases self.now c }
+        ensures each { (v : ℕ) → (IsVirtual self.now c v ↔ Has result.now v) }
+    {
+        self.parts_of(c).shared.as_slice()
+    }
+
+    // The nodes of the class that begin with it.
+    pub(crate) fn own(&self, c: ClassId) -> &[Node]
+        requires { IsComplete self.now c }
+        ensures { paths_in result.now ≡ chains self.now (length self.now) c }
+    {
+        let parts = self.parts_of(c);
+        &parts.nodes[..parts.own]
+    }
+
+    // How many nodes of the class begin with it.
+    pub(crate) fn own_count(&self, c: ClassId) -> usize
+        requires { IsComplete self.now c }
+        ensures count { result ≡ length (chains self.now (length self.now) c) }
+        ensures few { result ≤ 256 }
+        ensures all { length (subobjects_of self.now c) ≤ 256 }
+        ensures valid { IsClassList self.now }
+    {
+        self.parts_of(c).own
+    }
+
+    // The number of the first node of the class that begins with one of its virtual bases.
+    pub(crate) fn start(&self, c: ClassId, v: ClassId) -> usize
+        requires complete { IsComplete self.now c }
+        requires has { Has (all_virtual_bases self.now c) v }
+        ensures { IsStart self.now c v result }
+    {
+        let parts = self.parts_of(c);
+        start_among(parts.shared.as_slice(), parts.starts.as_slice(), v)
+    }
+
+    // The access of each node of the class.
+    pub(crate) fn accesses(&self, c: ClassId) -> &[Option<Access>]
+        requires { IsComplete self.now c }
+        ensures access { HaveAccess self.now c result.now }
+        ensures few { length result.now ≤ 256 }
+    {
+        self.parts_of(c).access.as_slice()
+    }
+
+    /// The access that a public member of the subobject has where it is named in `d`, if it has any. A protected member has
+    /// the lesser of this and protected; a private one has private in the whole, and none elsewhere.
+    pub fn access(&self, d: ClassId, n: NodeId) -> Option<Access>
+        requires complete { IsComplete self.now d }
+        requires node { IsNode self.now d n }
+        ensures { IsAccess self.now d (node self.now d n) Access.Public result }
+    {
+        self.accesses(d)[n.number as usize]
+    }
+
+    /// The number of the first member of this name that the class declares.
+    pub fn first_named(&self, c: ClassId, name: &str) -> Option<u32>
+        requires { IsComplete self.now c }
+        ensures { IsNextNamed result (members_of self.now c) name.now 0 }
+    {
+        self.parts_of(c).named.first.get(name).copied()
+    }
+
+    /// The number of the next member of the name that the `k`-th has.
+    pub fn next_named(&self, c: ClassId, k: u32) -> Option<u32>
+        requires complete { IsComplete self.now c }
+        requires member { k < length (members_of self.now c) }
+        ensures { IsNextNamed result (members_of self.now c) (member_name (members_of self.now c) k) (k + 1) }
+    {
+        self.parts_of(c).named.next[k as usize]
+    }
+
     /// The number of links in the longest chain of direct bases that begins at the class. A direct base has a lower one.
     pub fn depth(&self, c: ClassId) -> u32
         requires { IsComplete self.now c }
         ensures depth { result ≡ depth_of self.now c }
         ensures bases { Deepens self.now c }
     {
-        self.entries[c.number as usize].parts.depth as u32
+        self.parts_of(c).depth as u32
     }
 
     /// Whether the class declares or inherits a virtual function.
@@ -164,7 +269,7 @@ impl Graph {
         requires { IsComplete self.now c }
         ensures { Decides result (IsPolymorphic self.now c) }
     {
-        self.entries[c.number as usize].parts.polymorphic
+        self.parts_of(c).polymorphic
     }
 
     /// The subobject of `d` that `m`, a subobject of the class of `n`, is in `n`.
@@ -175,17 +280,37 @@ impl Graph {
         ensures node { IsNode self.now d result }
         ensures path { node self.now d result ≡ composed (node self.now d n) (node self.now (end_of (node self.now d n)) m) }
     {
-        let entries = self.entries.as_slice();
+        let whole = self.parts_of(d);
         let part = self.class_of(d, n);
-        if (m.number as usize) < own_count(entries, part) {
-            return NodeId {
-                number: n.number + m.number,
-            };
+        let (at, m) = (n.number as usize, m.number as usize);
+        node_id(place_in(
+            self,
+            part,
+            at,
+            m,
+            whole.shared.as_slice(),
+            whole.starts.as_slice(),
+        ))
+    }
+
+    /// The subobject of the class of `t` that `s`, which `t` contains, is in `t`.
+    pub fn part(&self, d: ClassId, t: NodeId, s: NodeId) -> NodeId
+        requires complete { IsComplete self.now d }
+        requires whole { IsNode self.now d t }
+        requires part { IsNode self.now d s }
+        requires within { IsWithin self.now (node self.now d s) (node self.now d t) }
+        ensures node { IsNode self.now (end_of (node self.now d t)) result }
+        ensures path { composed (node self.now d t) (node self.now (end_of (node self.now d t)) result) ≡ node self.now d s }
+    {
+        let class = self.class_of(d, t);
+        let own = self.own_count(class);
+        if let Some(m) = close_by(t, s, own) {
+            return m;
         }
-        let head = self.path(part, m)[0];
-        let from = start_in(entries, part, head);
-        let to = start_in(entries, d, head);
-        node_id(to + (m.number as usize - from))
+        let head = self.path(d, s)[0];
+        let from = self.start(d, head);
+        let to = self.start(class, head);
+        node_id(to + (s.number as usize - from))
     }
 
     /// Whether the subobject `t` contains `s`.
@@ -195,10 +320,12 @@ impl Graph {
         requires part { IsNode self.now d s }
         ensures { Decides result (IsWithin self.now (node self.now d s) (node self.now d t)) }
     {
-        let whole = self.path(d, t);
-        let part = self.path(d, s);
-        let shared = shared_of(self.entries.as_slice(), path_end(whole));
-        goes_from(whole, part, shared)
+        let class = self.class_of(d, t);
+        let own = self.own_count(class);
+        if let Some(_m) = close_by(t, s, own) {
+            return true;
+        }
+        among(self.virtual_bases(class), self.path(d, s)[0])
     }
 
     /// The subobject of `c` that is of class `b`.
@@ -252,7 +379,7 @@ impl Graph {
         ensures { Decides result (Derives self.now c b) }
     {
         // Read here, so that the graph is known to be a class list.
-        let _ = &self.entries;
+        let _ = &self.parts;
         if c == b {
             return false;
         }
@@ -264,38 +391,25 @@ impl Graph {
     }
 
     // Completes a class whose bases are complete, each once.
-    fn insert(
-        &mut self,
-        alloc: Global,
-        class: ClassId,
-        bases: &[Base],
-        members: &[Member],
-    ) -> Result<(), MakeEnd>
-        requires here { class < length self.old }
-        requires open { (class_at self.old class).complete ≡ false }
-        requires known { AreKnown self.old bases.now }
-        requires once { Distinct (classes_of bases.now) }
-        requires members { IsMemberList members.now }
+    fn insert(&mut self, class: ClassId, bases: &[Base], members: &[Member]) -> Result<(), MakeEnd>
+        requires { CanAdd self.old class bases.now members.now }
         ensures ok { OnOk result (self.new ≡ added self.old class bases.now members.now) }
         ensures err { OnErr result (self.new ≡ self.old) }
         ensures few { OnOk result (length (subobjects_of self.new class) ≤ 256) }
         ensures fields { OnOk result (field_count members.now ≤ 2 ^ 19) }
         ensures many { IfErr result (λ end. end ≡ MakeEnd.Many → AreTooMany self.old class bases.now members.now) }
     {
-        let made = match make(alloc, self.entries.as_slice(), class, bases, members) {
-            Ok(made) => made,
-            Err(end) => return Err(end),
-        };
-        let entry = &mut self.entries[class.number as usize];
-        entry.complete = true;
-        entry.parts = made;
+        let made = make(self.alloc, self, class, bases, members)?;
+        let bases = bases.to_vec(self.alloc)?;
+        let members = copy_members(self.alloc, members)?;
+        self.parts[class.number as usize] = made;
+        self.table.complete(class, bases, members);
         Ok(())
     }
 
     /// Completes a class.
     pub fn add(
         &mut self,
-        alloc: Global,
         class: ClassId,
         bases: &[Base],
         members: &[Member],
@@ -304,6 +418,7 @@ impl Graph {
         requires open { (class_at self.old class).complete ≡ false }
         requires declared { AreDeclared self.old bases.now }
         requires members { IsMemberList members.now }
+        requires typed { AreTyped (length self.old) members.now }
         ensures ok { OnOk result (self.new ≡ added self.old class bases.now members.now) }
         ensures fine { OnOk result (AreFine self.old bases.now) }
         ensures few { OnOk result (length (subobjects_of self.new class) ≤ 256) }
@@ -311,31 +426,24 @@ impl Graph {
         ensures ends { IfErr result (λ end. Ends self.old class bases.now members.now end) }
         ensures same { OnErr result (self.new ≡ self.old) }
     {
-        if let Err(end) = look(self.entries.as_slice(), bases) {
-            return Err(end);
-        }
-        match self.insert(alloc, class, bases, members) {
-            Ok(()) => Ok(()),
-            Err(MakeEnd::Many) => Err(GraphEnd::Many),
-            Err(MakeEnd::NoMemory) => Err(GraphEnd::NoMemory),
-        }
+        look(self, bases)?;
+        self.insert(class, bases, members)?;
+        Ok(())
     }
 
     /// The number of a name: its own where it is declared already, and else that of a new class.
-    pub fn declare(&mut self, alloc: Global, name: &str) -> Result<ClassId, AllocError>
+    pub fn declare(&mut self, name: &str) -> Result<ClassId, NoMemory>
         requires { length self.old < 2 ^ 32 - 1 }
         ensures named { IfOk result (λ c. IsNamed c self.old name.now) }
         ensures here { OnOk result (IfOk result (λ c. (c < length self.new) × (name_of self.new c ≡ name.now))) }
         ensures ok { OnOk result (IfOk result (λ c. self.new ≡ declared c self.old name.now)) }
         ensures err { OnErr result (self.new ≡ self.old) }
     {
-        if let Some(number) = self.names.get_index_of(name) {
-            return Ok(ClassId {
-                number: number as u32,
-            });
+        self.parts.reserve(1)?;
+        let class = self.table.declare(name)?;
+        if class.number as usize == self.parts.len() {
+            self.parts.push_reserved(no_parts(self.alloc));
         }
-        let number = self.entries.len() as u32;
-        push_named(alloc, &mut self.names, &mut self.entries, name)?;
-        Ok(ClassId { number })
+        Ok(class)
     }
 }

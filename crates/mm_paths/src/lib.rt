@@ -5,5 +5,7 @@ pub mod build;
 pub mod entry;
 pub mod find;
 pub mod graph;
+pub mod names;
+pub mod reach;
 #[cfg(test)]
 mod tests;

@@ -2,19 +2,18 @@ use Rattle.std.proofs.Common.{arith, refl, subst, sym, ◌∙◌, ◌≡◌}
 use Rattle.std.specs.Prelude.{true, false}
 use Rattle.mm_classes.specs.Lists.{Has}
 use Rattle.mm_classes.proofs.Answering.{Has-get_or}
-use Rattle.mm_paths.specs.Stored.{classes_in}
 use Rattle.mm_paths.proofs.Building.{known_at, none_polymorphic, never_polymorphic}
 use Rattle.mm_paths.proofs.build.any_polymorphic.Goals as goal
 
-pub polymorphic_at-requires-clause-complete : goal.polymorphic_at-requires-clause-complete
-polymorphic_at-requires-clause-complete c = known_at (classes_in c.args.entries.now) c.args.bases.now c.loop-n.n c.index-bases-n.result c.index-bases-n.is c.requires.known c.loop-n-test.true
+pub is_polymorphic-requires : goal.is_polymorphic-requires
+is_polymorphic-requires c = known_at c.args.graph.now c.args.bases.now c.loop-n.n c.index-bases-n.result c.index-bases-n.is c.requires.known c.loop-n-test.true
 
-pub returns-then-polymorphic_at : goal.returns-then-polymorphic_at
-returns-then-polymorphic_at c = (
+pub returns-then-is_polymorphic : goal.returns-then-is_polymorphic
+returns-then-is_polymorphic c = (
   (λ e. (
     c.index-bases-n.result,
     subst (Has c.args.bases.now) (sym c.index-bases-n.is) (Has-get_or c.args.bases.now c.loop-n.n c.index-bases-n.result c.loop-n-test.true),
-    c.polymorphic_at.ensures.0 c.if-polymorphic_at.true,
+    c.is_polymorphic.ensures.0 c.if-is_polymorphic.true,
   )),
   λ h. refl,
 )
@@ -22,9 +21,9 @@ returns-then-polymorphic_at c = (
 pub loop-n-preserved : goal.loop-n-preserved
 loop-n-preserved c = record {
   low = omega arith;
-  none = none_polymorphic (classes_in c.args.entries.now) c.args.bases.now c.loop-n.n c.index-bases-n.result c.index-bases-n.is c.loop-n-test.true c.loop-n.invariant.none
-      (λ p. let z : false ≡ true = sym c.if-polymorphic_at.false ∙ c.polymorphic_at.ensures.1 p in cc);
+  none = none_polymorphic c.args.graph.now c.args.bases.now c.loop-n.n c.index-bases-n.result c.index-bases-n.is c.loop-n-test.true c.loop-n.invariant.none
+      (λ p. let z : false ≡ true = sym c.if-is_polymorphic.false ∙ c.is_polymorphic.ensures.1 p in cc);
 }
 
 pub returns : goal.returns
-returns c = never_polymorphic (classes_in c.args.entries.now) c.args.bases.now c.loop-n.n (omega arith) c.loop-n.invariant.none
+returns c = never_polymorphic c.args.graph.now c.args.bases.now c.loop-n.n (omega arith) c.loop-n.invariant.none

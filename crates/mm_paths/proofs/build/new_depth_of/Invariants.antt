@@ -1,10 +1,9 @@
 use Rattle.std.proofs.Common.{◌≡◌, length, take, ◌-◌, ◌≤◌}
 use Rattle.mm_classes.specs.Adding.{new_depth}
-use Rattle.mm_paths.specs.Stored.{classes_in}
 use Rattle.mm_paths.proofs.build.new_depth_of.Given as goal
 
 abbrev pub invariant-loop-n : goal.invariant-loop-n
-invariant-loop-n l = record { low : l.n ≤ length l.bases; done : l.depth ≡ new_depth (classes_in l.entries) (take l.n l.bases) }
+invariant-loop-n l = record { low : l.n ≤ length l.bases; done : l.depth ≡ new_depth l.graph (take l.n l.bases) }
 
 abbrev pub decreases-loop-n : goal.decreases-loop-n
 decreases-loop-n l = length l.bases - l.n

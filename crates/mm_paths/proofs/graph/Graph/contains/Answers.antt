@@ -1,15 +1,9 @@
-use Rattle.std.proofs.Common.{ℕ, List, ap, ap₂, ◌∙◌}
-use Rattle.mm_classes.specs.Classes.{Class}
-use Rattle.mm_classes.specs.Subobjects.{virtual_bases}
-use Rattle.mm_classes.specs.Questions.{node}
-use Rattle.mm_paths.specs.Stored.{classes_in}
-use Rattle.mm_paths.proofs.Stored.{valid_list}
-use Rattle.mm_classes.proofs.Within.{contains_is}
+use Rattle.std.proofs.Common.{refl}
+use Rattle.mm_paths.proofs.Parting.{near_contains, far_tests}
 use Rattle.mm_paths.proofs.graph.Graph.contains.Goals as goal
 
+pub returns-in-Some : goal.returns-in-Some
+returns-in-Some c = ((λ e. near_contains c.args.self.now c.own_count-own.ensures.valid c.args.d c.args.t c.args.s c.class_of-class.result c.own_count-own.result c.requires.whole c.requires.part c.class_of-class.ensures.class c.own_count-own.ensures.count c.in-Some._m c.in-Some.ensures), λ w. refl)
+
 pub returns : goal.returns
-returns c = contains_is c.args.self.now (valid_list c.self.inside.entries.items c.args.self.now c.self.invariant.stored c.self.view_is) c.args.d
-    c.path-whole.result.now c.path-part.result.now (node c.args.self.now c.args.d c.args.t) (node c.args.self.now c.args.d c.args.s) c.shared_of-shared.result.now c.goes_from.result
-    c.path-whole.ensures.sub c.path-part.ensures.sub
-    (c.shared_of-shared.ensures ∙ ap₂ (λ (g : List Class) (e : ℕ). virtual_bases g e) (ap classes_in c.as_slice.ensures.value ∙ c.self.view_is) c.path_end.ensures)
-    c.goes_from.ensures c.path-whole.ensures.path c.path-part.ensures.path
+returns c = far_tests c.args.self.now c.own_count-own.ensures.valid c.args.d c.args.t c.args.s c.class_of-class.result c.own_count-own.result c.requires.whole c.requires.part c.class_of-class.ensures.class c.own_count-own.ensures.count c.in_default.ensures c.index-path-0.result c.path.result.now c.virtual_bases.result.now c.among.result c.path.ensures.path c.index-path-0.is c.virtual_bases.ensures.order c.among.ensures

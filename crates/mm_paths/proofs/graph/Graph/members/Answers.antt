@@ -1,16 +1,10 @@
-use Rattle.std.proofs.Common.{List, ◌≤◌, ◌^◌, get_or, ap, subst, sym, ◌∙◌}
+use Rattle.std.proofs.Common.{◌≤◌, ◌^◌, List, subst, sym, ap, ◌∙◌}
 use Rattle.mm_classes.specs.declared.class.Member.{Member}
-use Rattle.mm_classes.specs.Classes.{IsMemberList, field_count}
-use Rattle.mm_paths.proofs.Stored.{valid_list, members_at, parts_of}
+use Rattle.mm_classes.specs.Classes.{Class, members_of, field_count}
+use Rattle.mm_paths.specs.Stored.{IsStored}
+use Rattle.mm_paths.proofs.Laws.{fields_of}
 use Rattle.mm_paths.proofs.graph.Graph.members.Goals as goal
 
 pub returns-clause-fields : goal.returns-clause-fields
-returns-clause-fields c = λ k. subst (λ (ms : List Member). field_count ms ≤ 2 ^ 19) (sym c.as_slice.ensures.value)
-    (parts_of c.self.inside.entries.items c.args.self.now c.args.c c.index.result.now
-    (c.index.ensures ∙ ap (λ i. get_or c.self.inside.entries.items i c.index.result.now) c.c.view_is) c.self.invariant.stored c.self.view_is k).fields
-
-pub returns-clause-apart : goal.returns-clause-apart
-returns-clause-apart c = subst IsMemberList
-    (sym (c.as_slice.ensures.value ∙ members_at c.self.inside.entries.items c.args.self.now c.args.c c.index.result.now
-    (c.index.ensures ∙ ap (λ i. get_or c.self.inside.entries.items i c.index.result.now) c.c.view_is) c.self.view_is c.requires))
-    ((valid_list c.self.inside.entries.items c.args.self.now c.self.invariant.stored c.self.view_is).members c.args.c)
+returns-clause-fields c = λ k. subst (λ (ms : List Member). field_count ms ≤ 2 ^ 19) (sym (c.members.ensures.members ∙ ap (λ (g : List Class). members_of g c.args.c) c.self.view_is))
+    (fields_of c.args.self.now c.self.inside.parts.items c.args.c (subst (λ (g : List Class). IsStored g c.self.inside.parts.items) c.self.view_is c.self.invariant) k)

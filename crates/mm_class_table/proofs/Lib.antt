@@ -1,0 +1,4 @@
+pub mod Entries
+pub mod Bases
+pub mod Naming
+pub mod Completing

@@ -1,0 +1,4 @@
+pub mod Declaring
+pub mod Finding
+pub mod Chains
+pub mod Collapse

@@ -1,0 +1,4 @@
+pub mod Cells
+pub mod Tables
+pub mod Inside
+pub mod Rounds
