@@ -76,10 +76,10 @@ module _ (g : List Class) (ok : IsClassList g) (law : HasAccess g) where
         are = r.0;
         lead = r.1;
         much = (
-          let o = onward h.links (access_along k.links (Some a)) k.much in
-          let e = ap grade (along-append h.links k.links (Some a)) in
-          let m = h.much in omega arith
-        );
+            let o = onward h.links (access_along k.links (Some a)) k.much in
+            let e = ap grade (along-append h.links k.links (Some a)) in
+            let m = h.much in omega arith
+            );
       }
 
   -- the access that there is
@@ -262,6 +262,7 @@ module _ (g : List Class) (ok : IsClassList g) (law : HasAccess g) where
         uses')
 
   pub collapse : (f : Option ℕ) (n : ℕ) (q : Path) (a : Access) → IsComplete g n → MayUse g f n q a → IsCollapsed g f n q a
+  unfolding t s
   collapse f n q a k (at_once u) = record {
     step = n ∷ [];
     rest = q;
