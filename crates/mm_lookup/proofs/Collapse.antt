@@ -14,18 +14,8 @@ use Rattle.mm_classes.proofs.Compose.{compose-sub, compose-end, compose-assoc, w
 use Rattle.mm_classes.proofs.Deriving.{derives_falls}
 use Rattle.mm_classes.proofs.Ways.{compose-one, links_sub}
 use Rattle.mm_classes.proofs.AccessLaws.{grade-public, access_itself, along_capped, capped-grade, capped}
-use Rattle.mm_lookup.specs.Access.{UsesAt, everywhere, own, derived, MayUse, at_once, by_base}
+use Rattle.mm_lookup.specs.Access.{UsesAt, everywhere, own, derived, MayUse, at_once, by_base, IsCollapsed}
 use Rattle.mm_lookup.proofs.Chains.{along-append, joined}
-
--- a public step to t, and then one of the first three cases at the class of t
-pub record IsCollapsed (g : List Class) (f : Option ℕ) (n : ℕ) (q : Path) (a : Access) : Type 0 where
-  pub step : Path
-  pub rest : Path
-  pub step_in : IsSubobject g n step
-  pub rest_in : IsSubobject g (end_of step) rest
-  pub whole : compose step rest ≡ q
-  pub leads : IsAccess g n step Public (Some Public)
-  pub uses : UsesAt g f (end_of step) rest a
 
 -- some access
 some_of : (x : Option Access) → 1 ≤ grade x → (y : Access) × (x ≡ Some y)
