@@ -50,14 +50,15 @@ pushed P xs new n x d long each here e k h = subst (λ ys. P k (get_or ys k d)) 
 -- a list that has what has a property is not empty exactly where something has it
 pub some_of : (P : ℕ → Type 0) (vs : List ℕ) (b : Bool) → b ≡ eqb (length vs) 0 → ((v : ℕ) → P v ↔ Has vs v) → Decides (not b) ((v : ℕ) × P v)
 some_of P [] b e h =
-  let is_true : b ≡ true = e in
-  (λ f. let g : false ≡ true = sym (ap not is_true) ∙ f in cc, λ (v, p). absurd (none [] v refl ((h v).0 p)))
+    let is_true : b ≡ true = e in
+    (λ f. let g : false ≡ true = sym (ap not is_true) ∙ f in cc, λ (v, p). absurd (none [] v refl ((h v).0 p)))
 some_of P (v ∷ vs) b e h =
-  let is_false : b ≡ false = e ∙ not_zero (eqb_tells (length (v ∷ vs)) 0) in
-  (λ _. (v, (h v).1 (first refl)), λ _. ap not is_false)
+    let is_false : b ≡ false = e ∙ not_zero (eqb_tells (length (v ∷ vs)) 0) in
+    (λ _. (v, (h v).1 (first refl)), λ _. ap not is_false)
   where
     long : (n : ℕ) → suc n ≡ 0 → ⊥
     long n z = omega arith
+
     not_zero : ((eqb (length (v ∷ vs)) 0 ≡ true) × (length (v ∷ vs) ≡ 0)) ⊎ ((eqb (length (v ∷ vs)) 0 ≡ false) × (length (v ∷ vs) ≢ 0)) → eqb (length (v ∷ vs)) 0 ≡ false
     not_zero (inl (_, z)) = absurd (long (length vs) z)
     not_zero (inr (n, _)) = n
