@@ -1,17 +1,14 @@
 -- Which classes have virtual bases, and tags.
-use Rattle.std.proofs.Common.{◌≡◌, ◌≢◌, ℕ, ◌<◌, ◌⊎◌, inl, inr, true, false, List, [], ◌∷◌, length, get_or, sym, ◌∙◌, ap, refl, subst, arith, ◌+◌, ◌++◌, Bool, not, eqb, ◌↔◌, suc, zero}
+use Rattle.std.proofs.Common.{◌≡◌, ◌≢◌, ℕ, ◌<◌, ◌⊎◌, inl, inr, true, false, List, [], ◌∷◌, length, get_or, sym, ◌∙◌, ap, refl, subst, arith, ◌+◌, ◌++◌, Bool, not, eqb, ◌↔◌, suc}
 use Rattle.std.specs.Bool.{Decides}
 use Rattle.std.proofs.lemmas.Bool.Decides.{eqb_tells}
-use Rattle.std.proofs.lemmas.Bool.{cases_lt, eqb-true}
-use Rattle.std.proofs.lemmas.List.{get_or_append_left, get_or_push, get_or_read}
+use Rattle.std.proofs.lemmas.Bool.{cases_lt}
+use Rattle.std.proofs.lemmas.List.{get_or_append_left, get_or_push}
 use Rattle.mm_classes.specs.Lists.{Has, first}
 use Rattle.mm_classes.specs.declared.class.Base.{Base}
-use Rattle.mm_classes.specs.declared.class.Member.{Member}
-use Rattle.mm_classes.specs.Classes.{Class, IsClassList, class_at, bases_of, members_of, IsPolymorphic, HasVirtual, Derives, direct, through}
-use Rattle.mm_classes.specs.Subobjects.{Path, IsSubobject, IsVirtual, listed, below, subobjects_of}
-use Rattle.mm_classes.specs.Questions.{node, IsNode}
-use Rattle.mm_classes.proofs.Subs.{are_subobjects, virtual_falls}
-use Rattle.mm_classes.proofs.Answering.{place_from_Has, Has-get_or, complete_below}
+use Rattle.mm_classes.specs.Classes.{Class, IsClassList, class_at, bases_of, members_of, Derives, direct, through}
+use Rattle.mm_classes.specs.Subobjects.{IsVirtual, listed, below}
+use Rattle.mm_classes.proofs.Answering.{Has-get_or, complete_below}
 use Rattle.mm_layout.specs.Regions.{HasTag}
 
 -- nothing is in an empty list
