@@ -21,6 +21,7 @@ no_classes = record {
   once = λ c. tt;
   bare = λ c e. (refl, refl);
   members = λ c. record { few = omega arith; apart = λ i j d l m. absurd (let z : ⊥ = omega arith in z) };
+  typed = λ c m t h k. elim h [ ];
   named = tt;
 }
 
