@@ -1,4 +1,6 @@
-//! The C code of checked trees, and that it runs as they do. Definitions and a law; the code that writes such code is the callers'.
-#![tactic(auto)]
+//! Lowering as code: what it writes is the code that its definition in `mm_simulate` gives.
+#![tactic(auto, using(mm_c::proofs::Views::code_rules))]
 
-pub mod law;
+pub mod name;
+pub mod operator;
+pub mod write;
