@@ -1,7 +1,8 @@
 -- The code of every expression keeps C's rules, wherever its names are declared.
-use Rattle.std.proofs.Common.{◌≡◌, ℕ, suc, ◌+◌, ◌^◌, ◌<◌, ◌≤◌, List, [], ◌∷◌, ◌++◌, map, length, refl, sym, ap, ◌∙◌, subst, arith, inl, inr}
-use Rattle.std.specs.Prelude.{ℤ, pos, negsuc, Bool, true, false, not, ◌&&◌, ◌||◌, IsTrue, nat_eq, nat_lt, ◌==◌, if◌then◌else◌, codes, Some, None, slice_get}
-use Rattle.std.specs.List.{list_any}
+use Rattle.mm_c.proofs.Fits.{Fit, kind_same, fit_done, fit_then, fit_block, name_fits, fit_set, fit_if, fit_only, ints_fit, words_fit, words_compare, fit_run}
+use Rattle.mm_c.proofs.Bools.{both as both_true}
+use Rattle.std.proofs.Common.{◌≡◌, ℕ, suc, ◌+◌, ◌^◌, ◌<◌, ◌≤◌, List, [], ◌∷◌, map, length, refl, sym, ap, ◌∙◌, subst, arith, inl, inr}
+use Rattle.std.specs.Prelude.{ℤ, pos, negsuc, Bool, true, false, ◌||◌, IsTrue, nat_eq, nat_lt, ◌==◌, if◌then◌else◌, codes, Some, None, slice_get}
 use Rattle.mm_base.specs.declared.world.Builtin.{Builtin}
 use Rattle.mm_base.specs.declared.world.Builtin.TheVariants.{Put, Get, More}
 use Rattle.mm_base.specs.Num.{is_int}
@@ -13,13 +14,11 @@ use Rattle.mm_core.specs.declared.part.Target.{Target}
 use Rattle.mm_core.specs.declared.part.Target.TheVariants as to
 use Rattle.mm_core.specs.declared.part.Change.{Change}
 use Rattle.mm_core.specs.declared.part.Change.TheVariants.{Up, Down}
-use Rattle.mm_c.specs.declared.tree.CKind.{CKind}
 use Rattle.mm_c.specs.declared.tree.CKind.TheVariants as kind
 use Rattle.mm_c.specs.declared.tree.CAtom.{CAtom}
 use Rattle.mm_c.specs.declared.tree.CAtom.TheVariants.{Name, Negative, Least}
 use Rattle.mm_c.specs.declared.tree.COperator.{COperator}
 use Rattle.mm_c.specs.declared.tree.COperator.TheVariants as o
-use Rattle.mm_c.specs.declared.tree.CExpr.{CExpr}
 use Rattle.mm_c.specs.declared.tree.CCall.TheVariants.{Named}
 use Rattle.mm_c.specs.declared.tree.CExpr.TheVariants.{Atom, Binary, ToUnsigned, Load, Call}
 use Rattle.mm_c.specs.Tree as c
@@ -32,32 +31,7 @@ use Rattle.mm_core.specs.Valid.{Around, type_of, types_of, compares, is_number, 
 use Rattle.mm_agree.specs.Agree.{Layout, kind_of, cell_of}
 use Rattle.mm_simulate.proofs.Stores.{is_void}
 use Rattle.mm_simulate.proofs.Nodes.{suits_same}
-use Rattle.mm_simulate.specs.Lowered.{plain, word, greatest, minus_one, i_, u_, p_, v_, of_, set, only_if, if_or, trap_code, overflow_if, test_by, sum_test, difference_test, bound_test, minus_test, product_test, zero_trap, unless_over, on_int, on_word, int_atom, conversion, step_end, change_in_c, step_code, called_for, builtin_name, operator, atoms_from, kind_of_result, lowered, lowered_all, reach, reach_all, IsLowered, AreLowered}
-
--- No statement of the code breaks a rule.
-pub record Fit (h : Here) (xs : Code) : Type 0 where
-  pub by : list_any rules.is_true (code_breaks h xs) ≡ false
-
-any_append : (xs ys : List Bool) → list_any rules.is_true xs ≡ false → list_any rules.is_true ys ≡ false → list_any rules.is_true (xs ++ ys) ≡ false
-any_append [] ys e f = f
-any_append (true ∷ xs) ys e f = cc
-any_append (false ∷ xs) ys e f = any_append xs ys e f
-
-any_left : (xs ys : List Bool) → list_any rules.is_true (xs ++ ys) ≡ false → list_any rules.is_true xs ≡ false
-any_left [] ys e = refl
-any_left (true ∷ xs) ys e = cc
-any_left (false ∷ xs) ys e = any_left xs ys e
-
-any_right : (xs ys : List Bool) → list_any rules.is_true (xs ++ ys) ≡ false → list_any rules.is_true ys ≡ false
-any_right [] ys e = e
-any_right (true ∷ xs) ys e = cc
-any_right (false ∷ xs) ys e = any_right xs ys e
-
-kind_same : (k : CKind) → (kind_number k == kind_number k) ≡ true
-kind_same kind.Int = refl
-kind_same kind.Unsigned = refl
-kind_same kind.Long = refl
-kind_same kind.Pointer = refl
+use Rattle.mm_simulate.specs.Lowered.{plain, word, greatest, minus_one, i_, u_, p_, v_, of_, set, only_if, if_or, trap_code, overflow_if, test_by, sum_test, difference_test, bound_test, minus_test, product_test, zero_trap, unless_over, on_int, on_word, int_atom, conversion, step_end, change_in_c, step_code, called_for, builtin_name, operator, atoms_from, kind_of_result, lowered, lowered_all, reach, reach_all, IsLowered, AreLowered, block_of}
 
 or_true : (a b : Bool) → b ≡ true → (a || b) ≡ true
 or_true true b e = refl
@@ -66,42 +40,12 @@ or_true false b e = e
 true_or : (a b : Bool) → a ≡ true → (a || b) ≡ true
 true_or a b e = rw e refl
 
-both_true : (a b : Bool) → a ≡ true → b ≡ true → (a && b) ≡ true
-both_true a b e f = rw (e, f) refl
-
 module _ (h : Here) where
-  fit_done : Fit h done
-  fit_done = record { by = refl }
+  pub if_fits : (x : List ℕ) (p q : Code) → kind_in h.scope x ≡ Some kind.Int → Fit h p → Fit h q → Fit h (if_or x p q)
+  if_fits x p q e f k = fit_if h (Name x) (block_of p) (block_of q) (name_fits h kind.Int x e) (fit_block h p f) (fit_block h q k)
 
-  pub fit_then : (xs ys : Code) → Fit h xs → Fit h ys → Fit h (xs ⨾ ys)
-  fit_then done ys f k = k
-  fit_then (do_then s xs) ys f k = record { by = any_append (stmt_breaks h s) (code_breaks h (xs ⨾ ys)) (any_left (stmt_breaks h s) (code_breaks h xs) f.by) (fit_then xs ys (record { by = any_right (stmt_breaks h s) (code_breaks h xs) f.by }) k).by }
-
-  pub name_fits : (k : CKind) (x : List ℕ) → kind_in h.scope x ≡ Some k → fits h k (Name x) ≡ true
-  name_fits k x e = rw e (kind_same k)
-
-  pub fit_set : (x : List ℕ) (k : CKind) (r : CExpr) → kind_in h.scope x ≡ Some k → right_fits h k r ≡ true → Fit h (set x r)
-  fit_set x k r e f = record { by = rw e (rw f refl) }
-
-  pub fit_if : (x : List ℕ) (p q : Code) → kind_in h.scope x ≡ Some kind.Int → Fit h p → Fit h q → Fit h (if_or x p q)
-  fit_if x p q e f k = record { by = rw e (any_append (code_breaks h p ++ code_breaks h q) [] (any_append (code_breaks h p) (code_breaks h q) f.by k.by) refl) }
-
-  pub fit_only : (x : List ℕ) (p : Code) → kind_in h.scope x ≡ Some kind.Int → Fit h p → Fit h (only_if x p)
-  fit_only x p e f = record { by = rw e (any_append (code_breaks h p) [] f.by refl) }
-
-  -- right sides
-  pub ints_fit : (a b : CAtom) (op : COperator) → fits h kind.Int a ≡ true → fits h kind.Int b ≡ true → right_fits h kind.Int (Binary a op b) ≡ true
-  ints_fit a b op e f = rw (e, f) refl
-
-  pub words_fit : (a b : CAtom) (op : COperator) → is_arithmetic op ≡ true → fits h kind.Unsigned a ≡ true → fits h kind.Unsigned b ≡ true → right_fits h kind.Unsigned (Binary a op b) ≡ true
-  words_fit a b op is e f = rw (is, e, f) refl
-
-  pub words_compare : (a b : CAtom) (op : COperator) → is_arithmetic op ≡ false → fits h kind.Unsigned a ≡ true → fits h kind.Unsigned b ≡ true → right_fits h kind.Int (Binary a op b) ≡ true
-  words_compare a b op is e f = second (both_fit h kind.Int a b) (not (is_arithmetic op) && both_fit h kind.Unsigned a b) _ (rw (is, e, f) refl)
-    where
-      second : (x y z : Bool) → y ≡ true → (x || y || z) ≡ true
-      second true y z e = refl
-      second false y z e = rw e refl
+  pub only_fits : (x : List ℕ) (p : Code) → kind_in h.scope x ≡ Some kind.Int → Fit h p → Fit h (only_if x p)
+  only_fits x p e f = fit_only h (Name x) (block_of p) (name_fits h kind.Int x e) (fit_block h p f)
 
   -- ---- the tests and operators of `int`s, wherever a trap may be called
 
@@ -111,54 +55,54 @@ module _ (h : Here) where
 
     module _ (x y w : List ℕ) (is_x : kind_in h.scope x ≡ Some kind.Int) (is_y : kind_in h.scope y ≡ Some kind.Int) (is_w : kind_in h.scope w ≡ Some kind.Int) where
       fit_test : (a d e : CAtom) (op : COperator) (b : CAtom) → fits h kind.Int a ≡ true → fits h kind.Int b ≡ true → fits h kind.Int d ≡ true → fits h kind.Int e ≡ true → Fit h (test_by w a op b d e)
-      fit_test a d e op b fa fb fd fe = fit_then (set w (Binary a op b)) (set w (Binary d o.Less e)) (fit_set w kind.Int (Binary a op b) is_w (ints_fit a b op fa fb)) (fit_set w kind.Int (Binary d o.Less e) is_w (ints_fit d e o.Less fd fe))
+      fit_test a d e op b fa fb fd fe = fit_then h (set w (Binary a op b)) (set w (Binary d o.Less e)) (fit_set h w kind.Int (Binary a op b) is_w (ints_fit h a b op fa fb)) (fit_set h w kind.Int (Binary d o.Less e) is_w (ints_fit h d e o.Less fd fe))
 
       fx : fits h kind.Int (Name x) ≡ true
-      fx = name_fits kind.Int x is_x
+      fx = name_fits h kind.Int x is_x
 
       fy : fits h kind.Int (Name y) ≡ true
-      fy = name_fits kind.Int y is_y
+      fy = name_fits h kind.Int y is_y
 
       fw : fits h kind.Int (Name w) ≡ true
-      fw = name_fits kind.Int w is_w
+      fw = name_fits h kind.Int w is_w
 
       fit_compare : (a b : CAtom) (op : COperator) → fits h kind.Int a ≡ true → fits h kind.Int b ≡ true → Fit h (set w (Binary a op b))
-      fit_compare a b op e f = fit_set w kind.Int (Binary a op b) is_w (ints_fit a b op e f)
+      fit_compare a b op e f = fit_set h w kind.Int (Binary a op b) is_w (ints_fit h a b op e f)
 
       fit_sum : Fit h (sum_test x y w)
-      fit_sum = fit_then (set w (Binary (Name y) o.Less (plain 0))) _ (fit_compare (Name y) (plain 0) o.Less fy refl) (fit_if w _ _ is_w (fit_test Least (Name x) (Name w) o.Subtract (Name y) refl fy fx fw) (fit_test (plain greatest) (Name w) (Name x) o.Subtract (Name y) refl fy fw fx))
+      fit_sum = fit_then h (set w (Binary (Name y) o.Less (plain 0))) _ (fit_compare (Name y) (plain 0) o.Less fy refl) (if_fits w _ _ is_w (fit_test Least (Name x) (Name w) o.Subtract (Name y) refl fy fx fw) (fit_test (plain greatest) (Name w) (Name x) o.Subtract (Name y) refl fy fw fx))
 
       fit_difference : Fit h (difference_test x y w)
-      fit_difference = fit_then (set w (Binary (Name y) o.Less (plain 0))) _ (fit_compare (Name y) (plain 0) o.Less fy refl) (fit_if w _ _ is_w (fit_test (plain greatest) (Name w) (Name x) o.Add (Name y) refl fy fw fx) (fit_test Least (Name x) (Name w) o.Add (Name y) refl fy fx fw))
+      fit_difference = fit_then h (set w (Binary (Name y) o.Less (plain 0))) _ (fit_compare (Name y) (plain 0) o.Less fy refl) (if_fits w _ _ is_w (fit_test (plain greatest) (Name w) (Name x) o.Add (Name y) refl fy fw fx) (fit_test Least (Name x) (Name w) o.Add (Name y) refl fy fx fw))
 
       fit_bound : (above below : CAtom) → fits h kind.Int above ≡ true → fits h kind.Int below ≡ true → Fit h (bound_test x y w above below)
-      fit_bound above below fa fb = fit_then (set w (Binary (plain 0) o.Less (Name x))) _ (fit_compare (plain 0) (Name x) o.Less refl fx) (fit_if w _ _ is_w (fit_test above (Name w) (Name x) o.Divide (Name y) fa fy fw fx) (fit_test below (Name x) (Name w) o.Divide (Name y) fb fy fx fw))
+      fit_bound above below fa fb = fit_then h (set w (Binary (plain 0) o.Less (Name x))) _ (fit_compare (plain 0) (Name x) o.Less refl fx) (if_fits w _ _ is_w (fit_test above (Name w) (Name x) o.Divide (Name y) fa fy fw fx) (fit_test below (Name x) (Name w) o.Divide (Name y) fb fy fx fw))
 
       fit_minus : Fit h (minus_test x y w)
-      fit_minus = fit_then (set w (Binary (Name y) o.Equal minus_one)) _ (fit_compare (Name y) minus_one o.Equal fy refl) (fit_only w _ is_w (fit_compare (Name x) Least o.Equal fx refl))
+      fit_minus = fit_then h (set w (Binary (Name y) o.Equal minus_one)) _ (fit_compare (Name y) minus_one o.Equal fy refl) (only_fits w _ is_w (fit_compare (Name x) Least o.Equal fx refl))
 
       fit_product : Fit h (product_test x y w)
-      fit_product = fit_then (set w (Binary (plain 0) o.Less (Name y))) _ (fit_compare (plain 0) (Name y) o.Less refl fy) (fit_if w _ _ is_w (fit_bound (plain greatest) Least refl refl)
-          (fit_then (set w (Binary (Name y) o.Less minus_one)) _ (fit_compare (Name y) minus_one o.Less fy refl) (fit_if w _ _ is_w (fit_bound Least (plain greatest) refl refl) fit_minus)))
+      fit_product = fit_then h (set w (Binary (plain 0) o.Less (Name y))) _ (fit_compare (plain 0) (Name y) o.Less refl fy) (if_fits w _ _ is_w (fit_bound (plain greatest) Least refl refl)
+          (fit_then h (set w (Binary (Name y) o.Less minus_one)) _ (fit_compare (Name y) minus_one o.Less fy refl) (if_fits w _ _ is_w (fit_bound Least (plain greatest) refl refl) fit_minus)))
 
       fit_over : (z : List ℕ) (op : COperator) → kind_in h.scope z ≡ Some kind.Int → Fit h (unless_over op x y w z)
-      fit_over z op is_z = fit_then (overflow_if w) _ (fit_only w _ is_w (fit_trap 1 refl)) (fit_set z kind.Int (Binary (Name x) op (Name y)) is_z (ints_fit (Name x) (Name y) op fx fy))
+      fit_over z op is_z = fit_then h (overflow_if w) _ (only_fits w _ is_w (fit_trap 1 refl)) (fit_set h z kind.Int (Binary (Name x) op (Name y)) is_z (ints_fit h (Name x) (Name y) op fx fy))
 
       fit_zero : Fit h (zero_trap y (plain 0) w)
-      fit_zero = fit_then (set w (Binary (Name y) o.Equal (plain 0))) _ (fit_compare (Name y) (plain 0) o.Equal fy refl) (fit_only w _ is_w (fit_trap 2 refl))
+      fit_zero = fit_then h (set w (Binary (Name y) o.Equal (plain 0))) _ (fit_compare (Name y) (plain 0) o.Equal fy refl) (only_fits w _ is_w (fit_trap 2 refl))
 
       pub fit_int : (op : Operator) (z : List ℕ) → kind_in h.scope z ≡ Some kind.Int → Fit h (on_int op x y w z)
-      fit_int by.Add z is = fit_then (sum_test x y w) _ fit_sum (fit_over z o.Add is)
-      fit_int by.Subtract z is = fit_then (difference_test x y w) _ fit_difference (fit_over z o.Subtract is)
-      fit_int by.Multiply z is = fit_then (product_test x y w) _ fit_product (fit_over z o.Multiply is)
-      fit_int by.Divide z is = fit_then (zero_trap y (plain 0) w) _ fit_zero (fit_then (minus_test x y w) _ fit_minus (fit_over z o.Divide is))
-      fit_int by.Remainder z is = fit_then (zero_trap y (plain 0) w) _ fit_zero (fit_then (minus_test x y w) _ fit_minus (fit_over z o.Remainder is))
-      fit_int by.Less z is = fit_set z kind.Int _ is (ints_fit (Name x) (Name y) o.Less fx fy)
-      fit_int by.Greater z is = fit_set z kind.Int _ is (ints_fit (Name x) (Name y) o.Greater fx fy)
-      fit_int by.LessEqual z is = fit_set z kind.Int _ is (ints_fit (Name x) (Name y) o.LessEqual fx fy)
-      fit_int by.GreaterEqual z is = fit_set z kind.Int _ is (ints_fit (Name x) (Name y) o.GreaterEqual fx fy)
-      fit_int by.Equal z is = fit_set z kind.Int _ is (ints_fit (Name x) (Name y) o.Equal fx fy)
-      fit_int by.NotEqual z is = fit_set z kind.Int _ is (ints_fit (Name x) (Name y) o.NotEqual fx fy)
+      fit_int by.Add z is = fit_then h (sum_test x y w) _ fit_sum (fit_over z o.Add is)
+      fit_int by.Subtract z is = fit_then h (difference_test x y w) _ fit_difference (fit_over z o.Subtract is)
+      fit_int by.Multiply z is = fit_then h (product_test x y w) _ fit_product (fit_over z o.Multiply is)
+      fit_int by.Divide z is = fit_then h (zero_trap y (plain 0) w) _ fit_zero (fit_then h (minus_test x y w) _ fit_minus (fit_over z o.Divide is))
+      fit_int by.Remainder z is = fit_then h (zero_trap y (plain 0) w) _ fit_zero (fit_then h (minus_test x y w) _ fit_minus (fit_over z o.Remainder is))
+      fit_int by.Less z is = fit_set h z kind.Int _ is (ints_fit h (Name x) (Name y) o.Less fx fy)
+      fit_int by.Greater z is = fit_set h z kind.Int _ is (ints_fit h (Name x) (Name y) o.Greater fx fy)
+      fit_int by.LessEqual z is = fit_set h z kind.Int _ is (ints_fit h (Name x) (Name y) o.LessEqual fx fy)
+      fit_int by.GreaterEqual z is = fit_set h z kind.Int _ is (ints_fit h (Name x) (Name y) o.GreaterEqual fx fy)
+      fit_int by.Equal z is = fit_set h z kind.Int _ is (ints_fit h (Name x) (Name y) o.Equal fx fy)
+      fit_int by.NotEqual z is = fit_set h z kind.Int _ is (ints_fit h (Name x) (Name y) o.NotEqual fx fy)
 
 reach_some : (e : Expr) → 0 < reach e
 reach_some (set_local x e) = reach_some e
@@ -241,7 +185,7 @@ module _ (h : Here) (a : Around) (l : Layout) (name : ℕ → List ℕ) (n : ℕ
     fit_word_test op t low is = let low' : t < n = omega arith in fit_set h (i_ t) kind.Int _ (ok.ints t low') (words_compare h (Name (u_ t)) (Name (u_ (suc t))) op is (word_at t low') (word_at (suc t) low))
 
     fit_word_zero : (t : ℕ) → suc t < n → Fit h (zero_trap (u_ (suc t)) (word 0) (i_ (suc t)))
-    fit_word_zero t low = fit_then h (set (i_ (suc t)) (Binary (Name (u_ (suc t))) o.Equal (word 0))) _ (fit_set h (i_ (suc t)) kind.Int _ (ok.ints (suc t) low) (words_compare h (Name (u_ (suc t))) (word 0) o.Equal refl (word_at (suc t) low) refl)) (fit_only h (i_ (suc t)) _ (ok.ints (suc t) low) (fit_trap h ok.trap 2 refl))
+    fit_word_zero t low = fit_then h (set (i_ (suc t)) (Binary (Name (u_ (suc t))) o.Equal (word 0))) _ (fit_set h (i_ (suc t)) kind.Int _ (ok.ints (suc t) low) (words_compare h (Name (u_ (suc t))) (word 0) o.Equal refl (word_at (suc t) low) refl)) (only_fits h (i_ (suc t)) _ (ok.ints (suc t) low) (fit_trap h ok.trap 2 refl))
 
     fit_words : (op : Operator) (t : ℕ) → suc t < n → Fit h (on_word op (u_ t) (u_ (suc t)) (i_ (suc t)) (of_ (if compares op then ty.Bool else ty.Unsigned) t))
     fit_words by.Add t low = fit_word_set o.Add t low refl
@@ -316,7 +260,7 @@ module _ (h : Here) (a : Around) (l : Layout) (name : ℕ → List ℕ) (n : ℕ
         let fv = name_fits h kind.Int (v_ x) e in
         fit_then h (set (i_ t) (Atom (Name (v_ x)))) _ (fit_set h (i_ t) kind.Int _ (ok.ints t low') fv)
         (fit_then h (set (i_ (suc t)) (Binary (Name (v_ x)) o.Equal (step_end change))) _ (fit_set h (i_ (suc t)) kind.Int _ (ok.ints (suc t) low) (ints_fit h (Name (v_ x)) (step_end change) o.Equal fv (step_fits change)))
-        (fit_then h (overflow_if (i_ (suc t))) _ (fit_only h (i_ (suc t)) _ (ok.ints (suc t) low) (fit_trap h ok.trap 1 refl)) (fit_set h (v_ x) kind.Int _ e (ints_fit h (Name (v_ x)) (plain 1) (change_in_c change) fv refl))))
+        (fit_then h (overflow_if (i_ (suc t))) _ (only_fits h (i_ (suc t)) _ (ok.ints (suc t) low) (fit_trap h ok.trap 1 refl)) (fit_set h (v_ x) kind.Int _ e (ints_fit h (Name (v_ x)) (plain 1) (change_in_c change) fv refl))))
     fit_step ty.Unsigned t x change low is e =
         let low' : t < n = omega arith in
         let fv = name_fits h kind.Unsigned (v_ x) e in
@@ -349,15 +293,15 @@ module _ (h : Here) (a : Around) (l : Layout) (name : ℕ → List ℕ) (n : ℕ
       unfolding Entered
       call_is = rw there.1 (all_fit ts us es t types suit low)
 
-      fit_run : Fit h (just (c.run (Named f (atoms_from a l name t es))))
-      fit_run = record { by = rw call_is refl }
+      run_fits : Fit h (just (c.run (Named f (atoms_from a l name t es))))
+      run_fits = fit_run h (Named f (atoms_from a l name t es)) call_is
 
       fit_assign : t < n → is_void result ≡ false → Fit h (set (of_ result t) (Call (Named f (atoms_from a l name t es))))
       unfolding Entered
       fit_assign below void = fit_set h (of_ result t) (kind_of result) _ (of_at result t below) (both_true _ _ call_is (rw there.1 (result_kind result void)))
 
     fit_called : (f : List ℕ) (result : Ty) (us ts : List Ty) (es : Exprs) (t : ℕ) → Entered f result us → types_of a es ≡ ts → AllSuit ts us → t + reach_all es ≤ n → t < n → Fit h (called_for t result (Named f (atoms_from a l name t es)))
-    fit_called f ty.Void us ts es t there types suit low below = fit_run f ty.Void us ts es t there types suit low
+    fit_called f ty.Void us ts es t there types suit low below = run_fits f ty.Void us ts es t there types suit low
     fit_called f ty.Bool us ts es t there types suit low below = fit_assign f ty.Bool us ts es t there types suit low below refl
     fit_called f ty.Int us ts es t there types suit low below = fit_assign f ty.Int us ts es t there types suit low below refl
     fit_called f ty.Unsigned us ts es t there types suit low below = fit_assign f ty.Unsigned us ts es t there types suit low below refl
@@ -390,9 +334,9 @@ module _ (h : Here) (a : Around) (l : Layout) (name : ℕ → List ℕ) (n : ℕ
         expr_fits (convert x e) t low valid le = fit_then h (lowered a l name t e) _ (expr_fits e t low valid.1 le) (fit_conversion x (type_of a e) t (omega (arith, reach_some e)))
         expr_fits (binary op d e) t low valid le = fit_then h (lowered a l name t d) _ (expr_fits d t low.1 valid.1 (omega arith)) (fit_then h (lowered a l name (suc t) e) _ (expr_fits e (suc t) low.2 valid.2 (omega arith)) (fit_operator op (type_of a d) t (omega arith) (numbers_are op (type_of a d) (type_of a e) low.0 valid.0).0))
         expr_fits (negation e) t low valid le = fit_then h (lowered a l name t e) _ (expr_fits e t low valid.1 le) (fit_int_test t (omega (arith, reach_some e)) o.Equal)
-        expr_fits (both d e) t low valid le = fit_then h (lowered a l name t d) _ (expr_fits d t low.0 valid.2 (omega arith)) (fit_only h (i_ t) _ (ok.ints t (omega (arith, reach_some d))) (expr_fits e t low.1 valid.3 (omega arith)))
-        expr_fits (either d e) t low valid le = fit_then h (lowered a l name t d) _ (expr_fits d t low.0 valid.2 (omega arith)) (fit_if h (i_ t) _ _ (ok.ints t (omega (arith, reach_some d))) (fit_done h) (expr_fits e t low.1 valid.3 (omega arith)))
-        expr_fits (choose e d f) t low valid le = fit_then h (lowered a l name t e) _ (expr_fits e t low.0 valid.2 (omega arith)) (fit_if h (i_ t) _ _ (ok.ints t (omega (arith, reach_some e))) (expr_fits d t low.1 valid.3 (omega arith)) (expr_fits f t low.2 valid.4 (omega arith)))
+        expr_fits (both d e) t low valid le = fit_then h (lowered a l name t d) _ (expr_fits d t low.0 valid.2 (omega arith)) (only_fits h (i_ t) _ (ok.ints t (omega (arith, reach_some d))) (expr_fits e t low.1 valid.3 (omega arith)))
+        expr_fits (either d e) t low valid le = fit_then h (lowered a l name t d) _ (expr_fits d t low.0 valid.2 (omega arith)) (if_fits h (i_ t) _ _ (ok.ints t (omega (arith, reach_some d))) (fit_done h) (expr_fits e t low.1 valid.3 (omega arith)))
+        expr_fits (choose e d f) t low valid le = fit_then h (lowered a l name t e) _ (expr_fits e t low.0 valid.2 (omega arith)) (if_fits h (i_ t) _ _ (ok.ints t (omega (arith, reach_some e))) (expr_fits d t low.1 valid.3 (omega arith)) (expr_fits f t low.2 valid.4 (omega arith)))
         expr_fits (call f es) t low valid le =
             let v = valid.0 in
             fit_then h (lowered_all a l name t es) _ (exprs_fit es t low valid.1 (omega arith))

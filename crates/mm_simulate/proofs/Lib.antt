@@ -6,6 +6,7 @@ pub mod Operators
 pub mod Nodes
 pub mod Stmts
 pub mod Functions
+pub mod Defined
 pub mod Programs
 pub mod Scalar
 pub mod Below

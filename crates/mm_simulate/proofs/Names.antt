@@ -1,5 +1,5 @@
 -- Names of different places are different, so each holds what was stored in it last.
-use Rattle.std.proofs.Common.{◌≡◌, ◌≢◌, ℕ, zero, suc, ◌+◌, ◌-◌, ◌*◌, ◌/◌, ◌%◌, ◌<◌, List, [], ◌∷◌, refl, sym, ap, ◌∙◌, arith}
+use Rattle.std.proofs.Common.{◌≡◌, ◌≢◌, ℕ, zero, suc, ◌+◌, ◌-◌, ◌*◌, ◌/◌, ◌%◌, ◌<◌, List, [], ◌∷◌, refl, sym, ap, ◌∙◌, arith, ◌++◌}
 use Rattle.std.specs.Prelude.{Bool, true, false, nat_eq, if◌then◌else◌}
 use Rattle.std.specs.Str.{bytes_eq}
 use Rattle.std.proofs.lemmas.Bool.{eqb-true, eq-eqb}
@@ -8,7 +8,12 @@ use Rattle.mm_c.specs.declared.value.CValue.{CValue}
 use Rattle.mm_c.specs.declared.tree.CKind.{CKind}
 use Rattle.mm_c.specs.declared.tree.CKind.TheVariants.{Int, Unsigned, Long, Pointer}
 use Rattle.mm_c.specs.CMeaning.{Names, with_name}
-use Rattle.mm_simulate.specs.Names.{digits_onto, numeral, letter, Place, local, temporary, named}
+use Rattle.mm_c.specs.Tokens.{is_word_byte}
+use Rattle.mm_c.proofs.Bools.{and_left, and_right, both}
+use Rattle.std.specs.Prelude.{filter}
+use Rattle.std.specs.List.{list_all}
+use Rattle.std.specs.Char.{is_ascii_digit}
+use Rattle.mm_simulate.specs.Names.{function_named, digits_onto, numeral, letter, Place, local, temporary, named}
 
 -- ---- digits
 
@@ -27,6 +32,26 @@ read_digits (suc k) n more low = by (nat_eq (n / 10) 0) refl (read_digits k)
 read_numeral : (n : ℕ) → read 0 (numeral n) ≡ n
 unfolding numeral
 read_numeral n = let low : n < suc n = omega arith in read_digits (suc n) n [] low
+
+-- ---- digits are digits
+
+digit_byte : (n : ℕ) → is_ascii_digit (48 + n % 10) ≡ true
+digit_byte n = grind arith
+
+one_digit : (n : ℕ) (more : List ℕ) → list_all is_ascii_digit more ≡ true → list_all is_ascii_digit ((48 + n % 10) ∷ more) ≡ true
+one_digit n more h = both (is_ascii_digit (48 + n % 10)) (list_all is_ascii_digit more) (digit_byte n) h
+
+digits_on : (k n : ℕ) (more : List ℕ) → list_all is_ascii_digit more ≡ true → list_all is_ascii_digit (digits_onto k n more) ≡ true
+digits_on zero n more h = h
+digits_on (suc k) n more h = by (nat_eq (n / 10) 0) (digits_on k (n / 10) ((48 + n % 10) ∷ more) (one_digit n more h))
+  where
+    by : (b : Bool) → list_all is_ascii_digit (digits_onto k (n / 10) ((48 + n % 10) ∷ more)) ≡ true → list_all is_ascii_digit (elim b [ true ↦ (48 + n % 10) ∷ more | false ↦ digits_onto k (n / 10) ((48 + n % 10) ∷ more) ]) ≡ true
+    by true ih = one_digit n more h
+    by false ih = ih
+
+pub numeral_digits : (n : ℕ) → list_all is_ascii_digit (numeral n) ≡ true
+unfolding numeral
+numeral_digits n = digits_on (suc n) n [] refl
 
 pub numeral_injective : (m n : ℕ) → numeral m ≡ numeral n → m ≡ n
 numeral_injective m n e = sym (read_numeral m) ∙ ap (read 0) e ∙ read_numeral n
@@ -53,7 +78,7 @@ local_letter Unsigned e = omega (arith, e)
 local_letter Long e = omega (arith, e)
 local_letter Pointer e = omega (arith, e)
 
-is_false : (b : Bool) → (b ≡ true → ⊥) → b ≡ false
+pub is_false : (b : Bool) → (b ≡ true → ⊥) → b ≡ false
 is_false true h = absurd (h refl)
 is_false false h = refl
 
@@ -110,3 +135,30 @@ int_letter Pointer e = absurd (let z : ⊥ = omega (arith, e) in z)
 pub int_name : (k : CKind) (t x : ℕ) → bytes_eq (named (temporary k t)) (named (temporary Int x)) ≡ true → k ≡ Int
 unfolding head_of
 int_name k t x e = int_letter k (ap head_of ((bytes_eq-Decides (named (temporary k t)) (named (temporary Int x))).0 e))
+
+-- ---- functions
+
+-- what stands before a `_`
+abbrev lead : List ℕ → List ℕ
+lead [] = []
+lead (c ∷ cs) = elim (nat_eq c 95) [ true ↦ [] | false ↦ c ∷ lead cs ]
+
+no_line : (d : ℕ) → is_ascii_digit d ≡ true → nat_eq d 95 ≡ false
+no_line d e = grind arith
+
+lead_digits : (ds more : List ℕ) → list_all is_ascii_digit ds ≡ true → lead (ds ++ 95 ∷ more) ≡ ds
+lead_digits [] more h = refl
+lead_digits (d ∷ ds) more h =
+    ap (λ (b : Bool). elim b as (λ (z : Bool). List ℕ) [ true ↦ [] | false ↦ d ∷ lead (ds ++ 95 ∷ more) ]) (no_line d (and_left (is_ascii_digit d) (list_all is_ascii_digit ds) h))
+    ∙ ap (λ ns. d ∷ ns) (lead_digits ds more (and_right (is_ascii_digit d) (list_all is_ascii_digit ds) h))
+
+no_entry : ◌≢◌ {A = ℕ} 109 102
+no_entry e = omega (arith, e)
+
+-- functions of different numbers have different names
+pub function_name : (b d : Bool) (i j m : ℕ) (s t : List ℕ) → nat_eq i m ≡ b → nat_eq j m ≡ d → function_named b i s ≡ function_named d j t → i ≡ j
+unfolding tail_of head_of
+function_name true true i j m s t e f h = eqb-true i m e ∙ sym (eqb-true j m f)
+function_name false false i j m s t e f h = numeral_injective i j (sym (lead_digits (numeral i) (filter is_word_byte s) (numeral_digits i)) ∙ ap (λ xs. lead (tail_of xs)) h ∙ lead_digits (numeral j) (filter is_word_byte t) (numeral_digits j))
+function_name true false i j m s t e f h = absurd (no_entry (ap head_of h))
+function_name false true i j m s t e f h = absurd (no_entry (sym (ap head_of h)))

@@ -1,8 +1,8 @@
 -- The lowered program runs as the source does, at every bound.
-use Rattle.std.proofs.Common.{◌≡◌, ◌≢◌, ℕ, zero, suc, ◌+◌, ◌<◌, List, [], ◌∷◌, ◌++◌, length, refl, sym, ap, ◌∙◌, subst, arith}
+use Rattle.std.proofs.Common.{◌≡◌, ◌≢◌, ℕ, zero, suc, ◌<◌, List, [], ◌∷◌, ◌++◌, length, refl, sym, ap, ◌∙◌, subst, arith, map}
 use Rattle.std.specs.Prelude.{ℤ, Bool, true, false, ◌&&◌, not, IsTrue, nat_eq, if◌then◌else◌, codes, Option, Some, None, slice_get}
 use Rattle.std.specs.Str.{bytes_eq}
-use Rattle.std.proofs.lemmas.Bool.{eqb-true, eq-eqb}
+use Rattle.std.proofs.lemmas.Bool.{eq-eqb}
 use Rattle.std.proofs.lemmas.Slice.Eq.{bytes_eq-Decides}
 use Rattle.mm_meaning.specs.Run.{Run}
 use Rattle.mm_classes.specs.declared.class.Ty.{Ty}
@@ -34,90 +34,52 @@ use Rattle.mm_c.specs.Tree as tree
 use Rattle.mm_agree.specs.Agree.{stop_in_c, Layout, Agree, both_give, both_stop, in_c, all_in_c, States, OneWorld, SameResult, Alike, CallsAgree, HasPrelude}
 use Rattle.mm_agree.specs.Translates.{finish_in_c, outcome_in_c, IsInput, Translates}
 use Rattle.mm_simulate.specs.Names.{function_named}
-use Rattle.mm_simulate.specs.Lowered.{name_of, fn_of, function_items, proto_items, head_items, functions_from, heads_from, lowered_program, IsLoweredStmt}
-use Rattle.mm_simulate.proofs.Names.{numeral_injective}
+use Rattle.mm_simulate.specs.Lowered.{Defined, is_defined, source_name, name_of, fn_of, item_of, head_of, entry, others, lowered_program, IsLoweredStmt}
+use Rattle.mm_simulate.proofs.Names.{is_false, function_name}
+use Rattle.mm_simulate.proofs.Defined.{defined_as, Apart, all_apart, complete}
 use Rattle.mm_simulate.proofs.Stores.{is_void}
 use Rattle.mm_simulate.proofs.Nodes.{AllSolid}
 use Rattle.mm_simulate.proofs.Stmts.{not_void}
 use Rattle.mm_simulate.proofs.Functions.{function_agrees}
 
--- ---- names of functions
+module _ (p : Program) (l : Layout) (temps : ℕ → List (CKind × ℕ)) where
+  abbrev callable : Function → Bool
+  callable = is_defined
 
-rest_of : List ℕ → List ℕ
-rest_of (a ∷ b ∷ c ∷ d ∷ e ∷ more) = more
-rest_of other = []
-
-second_of : List ℕ → ℕ
-second_of (a ∷ b ∷ more) = b
-second_of other = 0
-
-unequal : ◌≢◌ {A = ℕ} 97 109
-unequal e = omega (arith, e)
-
-named_injective : (b d : Bool) (i j m : ℕ) → nat_eq i m ≡ b → nat_eq j m ≡ d → function_named b i ≡ function_named d j → i ≡ j
-unfolding rest_of second_of
-named_injective true true i j m e f h = eqb-true i m e ∙ sym (eqb-true j m f)
-named_injective false false i j m e f h = numeral_injective i j (ap rest_of h)
-named_injective true false i j m e f h = absurd (unequal (ap second_of h))
-named_injective false true i j m e f h = absurd (unequal (sym (ap second_of h)))
-
-is_false : (b : Bool) → (b ≡ true → ⊥) → b ≡ false
-is_false true h = absurd (h refl)
-is_false false h = refl
-
-module _ (p : Program) (l : Layout) (callable : Function → Bool) (temps : Stmt → List (CKind × ℕ)) where
   abbrev q : tree.Program
-  q = lowered_program p l callable temps
-
-  other_name : (i j : ℕ) → i ≢ j → bytes_eq (name_of p i) (name_of p j) ≡ false
-  other_name i j ne = is_false (bytes_eq (name_of p i) (name_of p j)) (λ e. ne (named_injective (nat_eq i (number_of_main p.functions)) (nat_eq j (number_of_main p.functions)) i j (number_of_main p.functions) refl refl ((bytes_eq-Decides (name_of p i) (name_of p j)).0 e)))
+  q = lowered_program p l temps
 
   -- ---- what a name calls
+
+  other_name : (i j : ℕ) → i ≢ j → bytes_eq (name_of p i) (name_of p j) ≡ false
+  other_name i j ne = is_false (bytes_eq (name_of p i) (name_of p j)) (λ e. ne (function_name (nat_eq i (number_of_main p.functions)) (nat_eq j (number_of_main p.functions)) i j (number_of_main p.functions) _ _ refl refl ((bytes_eq-Decides (name_of p i) (name_of p j)).0 e)))
 
   found_if : (b d : Bool) (F : tree.Function) (more : List tree.Item) (x : List ℕ) → bytes_eq F.name x ≡ d → d ≡ b → c.function_in (tree.function F ∷ more) x ≡ elim b [ true ↦ Some (c.defined F) | false ↦ c.function_in more x ]
   found_if b d F more x e f = ap (λ z. elim z as (λ (y : Bool). Option c.Callee) [ true ↦ Some (c.defined F) | false ↦ c.function_in more x ]) (e ∙ f)
 
-  skip : (n : ℕ) (f : Function) (o : Option Stmt) (more : List tree.Item) (i : ℕ) → n ≢ i → c.function_in (function_items p l callable temps n f o more) (name_of p i) ≡ c.function_in more (name_of p i)
-  skip n f None more i ne = refl
-  skip n f (Some b) more i ne = found_if false false (fn_of p l callable temps n f b) more (name_of p i) (other_name n i ne) refl
+  find : (ds : List Defined) (d : Defined) → Apart ds → Has ds d → c.function_in (map (item_of p l temps) ds) (name_of p d.number) ≡ Some (c.defined (fn_of p l temps d))
+  find [] d ok h = elim h [ ]
+  find (x ∷ ds) d ok (first e) = subst (λ (z : Defined). c.function_in (map (item_of p l temps) (x ∷ ds)) (name_of p z.number) ≡ Some (c.defined (fn_of p l temps z))) e (found_if true true (fn_of p l temps x) (map (item_of p l temps) ds) (name_of p x.number) ((bytes_eq-Decides (name_of p x.number) (name_of p x.number)).1 refl) refl)
+  find (x ∷ ds) d ok (later h) = found_if false false (fn_of p l temps x) (map (item_of p l temps) ds) (name_of p d.number) (other_name x.number d.number (ok.0 d h)) refl ∙ find ds d ok.1 h
 
-  find : (fs : List Function) (n i j : ℕ) (f : Function) (b : Stmt) → slice_get fs j ≡ Some f → f.body ≡ Some b → i ≡ n + j → c.function_in (functions_from p l callable temps n fs) (name_of p i) ≡ Some (c.defined (fn_of p l callable temps i f b))
-  find [] n i j f b e h is = cc
-  find (g ∷ fs) n i zero f b e h is =
-      let same : g ≡ f = cc in
-      let at : n ≡ i = omega arith in
-      ap (λ (z : Function). c.function_in (function_items p l callable temps n z z.body (functions_from p l callable temps (suc n) fs)) (name_of p i)) same
-      ∙ ap (λ o. c.function_in (function_items p l callable temps n f o (functions_from p l callable temps (suc n) fs)) (name_of p i)) h
-      ∙ ap (λ z. c.function_in (tree.function (fn_of p l callable temps z f b) ∷ functions_from p l callable temps (suc n) fs) (name_of p i)) at
-      ∙ found_if true true (fn_of p l callable temps i f b) (functions_from p l callable temps (suc n) fs) (name_of p i) ((bytes_eq-Decides (name_of p i) (name_of p i)).1 refl) refl
-  find (g ∷ fs) n i (suc j) f b e h is = skip n g g.body (functions_from p l callable temps (suc n) fs) i (λ z. let y : ⊥ = omega arith in y) ∙ find fs (suc n) i j f b e h (omega arith)
-
-  past_proto : (b : Bool) (F : tree.Function) (more : List tree.Item) (x : List ℕ) → c.function_in (proto_items p l callable temps b F more) x ≡ c.function_in more x
-  past_proto true F more x = refl
-  past_proto false F more x = refl
-
-  past_head : (n : ℕ) (f : Function) (o : Option Stmt) (more : List tree.Item) (x : List ℕ) → c.function_in (head_items p l callable temps n f o more) x ≡ c.function_in more x
-  past_head n f None more x = refl
-  past_head n f (Some b) more x = past_proto (nat_eq n (number_of_main p.functions)) (fn_of p l callable temps n f b) more x
-
-  past_heads : (fs : List Function) (n : ℕ) (more : List tree.Item) (x : List ℕ) → c.function_in (heads_from p l callable temps n fs more) x ≡ c.function_in more x
-  past_heads [] n more x = refl
-  past_heads (f ∷ fs) n more x = past_head n f f.body (heads_from p l callable temps (suc n) fs more) x ∙ past_heads fs (suc n) more x
+  past_heads : (ds : List Defined) (more : List tree.Item) (x : List ℕ) → c.function_in (map (head_of p l temps) ds ++ more) x ≡ c.function_in more x
+  past_heads [] more x = refl
+  past_heads (d ∷ ds) more x = past_heads ds more x
 
   -- no function of the source has a name of the prelude
-  no_prelude : (b : Bool) (n : ℕ) → c.callee_of q (function_named b n) ≡ c.function_in q.items (function_named b n)
-  no_prelude true n = refl
-  no_prelude false n = refl
+  no_prelude : (b : Bool) (n : ℕ) (s : List ℕ) → c.callee_of q (function_named b n s) ≡ c.function_in q.items (function_named b n s)
+  no_prelude true n s = refl
+  no_prelude false n s = refl
 
-  callee : (i : ℕ) (f : Function) (b : Stmt) → slice_get p.functions i ≡ Some f → f.body ≡ Some b → c.callee_of q (name_of p i) ≡ Some (c.defined (fn_of p l callable temps i f b))
-  callee i f b e h = no_prelude (nat_eq i (number_of_main p.functions)) i ∙ past_heads p.functions 0 (functions_from p l callable temps 0 p.functions) (name_of p i) ∙ find p.functions 0 i i f b e h (omega arith)
+  callee : (i : ℕ) (f : Function) (b : Stmt) → slice_get p.functions i ≡ Some f → f.body ≡ Some b → c.callee_of q (name_of p i) ≡ Some (c.defined (fn_of p l temps (defined_as i f b)))
+  callee i f b e h = no_prelude (nat_eq i (number_of_main p.functions)) i (source_name (slice_get p.functions i)) ∙ past_heads (others p) (map (item_of p l temps) (entry p ++ others p)) (name_of p i) ∙ find (entry p ++ others p) (defined_as i f b) (all_apart p) (complete p i f b e h)
 
   not_inline : (b : Bool) → is_inline (if b then Public else Static) ≡ false
   not_inline true = refl
   not_inline false = refl
 
-  called : (steps : c.Steps) (i : ℕ) (f : Function) (b : Stmt) (vs : List CValue) → slice_get p.functions i ≡ Some f → f.body ≡ Some b → c.all_calls q steps (name_of p i) vs ≡ steps (fn_of p l callable temps i f b) vs
-  called steps i f b vs e h = ap (λ o. c.any_callee q steps o vs) (callee i f b e h) ∙ ap (λ (z : Bool). if z then c.enter (c.around_of q (c.plain_calls q steps)) (fn_of p l callable temps i f b) vs else steps (fn_of p l callable temps i f b) vs) (not_inline (nat_eq i (number_of_main p.functions)))
+  called : (steps : c.Steps) (i : ℕ) (f : Function) (b : Stmt) (vs : List CValue) → slice_get p.functions i ≡ Some f → f.body ≡ Some b → c.all_calls q steps (name_of p i) vs ≡ steps (fn_of p l temps (defined_as i f b)) vs
+  called steps i f b vs e h = ap (λ o. c.any_callee q steps o vs) (callee i f b e h) ∙ ap (λ (z : Bool). if z then c.enter (c.around_of q (c.plain_calls q steps)) (fn_of p l temps (defined_as i f b)) vs else steps (fn_of p l temps (defined_as i f b)) vs) (not_inline (nat_eq i (number_of_main p.functions)))
 
   pub prelude : (steps : c.Steps) → HasPrelude (c.around_all q steps)
   prelude steps = record { put = λ vs. refl; get = λ vs. refl; more = λ vs. refl; trap = λ vs. refl; new = λ vs. refl }
@@ -171,10 +133,10 @@ module _ (p : Program) (l : Layout) (callable : Function → Bool) (temps : Stmt
     solid_calls n f e = arguments_solid f (valid n f e)
 
     -- the call of a function, and of its code
-    steps_agree : (n i : ℕ) (f : Function) (b : HasBody f) (vs : List Value) (s : State) (u : c.State) (k : ℕ) → CallsAgree p l callable (name_of p) (λ k. Unit {0}) (call_of p n) (c.around_all q (c.steps_of q n)) → slice_get p.functions i ≡ Some f → AllFit p.classes s.objects (argument_types p.classes f) vs → IsState p.classes s → States p.classes l s u → Alike p.classes l f.result (call_of p (suc n) i vs s k) (c.steps_of q (suc n) (fn_of p l callable temps i f b.stmt) (all_in_c l s.objects vs) u k)
+    steps_agree : (n i : ℕ) (f : Function) (b : HasBody f) (vs : List Value) (s : State) (u : c.State) (k : ℕ) → CallsAgree p l callable (name_of p) (λ k. Unit {0}) (call_of p n) (c.around_all q (c.steps_of q n)) → slice_get p.functions i ≡ Some f → AllFit p.classes s.objects (argument_types p.classes f) vs → IsState p.classes s → States p.classes l s u → Alike p.classes l f.result (call_of p (suc n) i vs s k) (c.steps_of q (suc n) (fn_of p l temps (defined_as i f b.stmt)) (all_in_c l s.objects vs) u k)
     steps_agree n i f b vs s u zero agree e fits is states = both_stop states.world
     steps_agree n i f b vs s u (suc k) agree e fits is states =
-        rw (e, b.is) (function_agrees p callable l (name_of p) (call_of p n) (c.around_all q (c.steps_of q n)) (prelude (c.steps_of q n)) f (known n (local_types p.classes f) (length (argument_types p.classes f))) agree (locals_solid f (valid i f e)) solid_calls i (nat_eq i (number_of_main p.functions)) b.stmt (temps b.stmt) (low i f b.stmt e b.is) b.fits vs s u k fits is states)
+        rw (e, b.is) (function_agrees p callable l (name_of p) (call_of p n) (c.around_all q (c.steps_of q n)) (prelude (c.steps_of q n)) f (known n (local_types p.classes f) (length (argument_types p.classes f))) agree (locals_solid f (valid i f e)) solid_calls i (nat_eq i (number_of_main p.functions)) b.stmt (temps i) (low i f b.stmt e b.is) b.fits vs s u k fits is states)
 
     pub calls_agree : (n : ℕ) → CallsAgree p l callable (name_of p) (λ k. Unit {0}) (call_of p n) (c.around_all q (c.steps_of q n))
     calls_agree zero = record { by = λ i f vs s u k at e closed ok fits is states.
@@ -249,7 +211,7 @@ module _ (p : Program) (l : Layout) (callable : Function → Bool) (temps : Stmt
     outcome_same _ _ (both_stop {x = x} {s = s} {t = u} e) = rw (stopped_same x, ← e) refl
 
     main_name : name_of p (number_of_main p.functions) ≡ codes "main"
-    main_name = ap (λ b. function_named b (number_of_main p.functions)) (eq-eqb (number_of_main p.functions) (number_of_main p.functions) refl)
+    main_name = ap (λ b. function_named b (number_of_main p.functions) (source_name (slice_get p.functions (number_of_main p.functions)))) (eq-eqb (number_of_main p.functions) (number_of_main p.functions) refl)
 
     -- as a run begins
     begins : (input : List ℤ) → IsInput input → IsState p.classes (by.starting input)

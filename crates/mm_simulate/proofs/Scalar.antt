@@ -71,4 +71,4 @@ module _ (p : Program) (scalar : IsScalar p) where
 
 -- the theorem
 pub simulates : Simulates
-simulates = record { translates = λ p l temps scalar. translates p l (λ f. f.defined) temps (known_at p scalar) (valid_at p scalar) (λ f e. e) scalar.trees scalar.merged.main (closed_at p scalar) (λ f e. e) }
+simulates = record { translates = λ p l temps scalar. translates p l temps (known_at p scalar) (valid_at p scalar) (λ f e. e) scalar.trees scalar.merged.main (closed_at p scalar) (λ f e. e) }

@@ -1,6 +1,6 @@
 -- The C code of a checked tree. A value goes to the temporary of number t and of its type's kind; the code changes no
 -- temporary below t. No operation of it is stuck. (Own.)
-use Rattle.std.specs.Prelude.{◌≡◌, ℕ, zero, suc, max, ℤ, pos, negsuc, Bool, true, false, nat_eq, List, [], ◌∷◌, ◌++◌, length, map, Option, Some, None, codes, if◌then◌else◌}
+use Rattle.std.specs.Prelude.{◌≡◌, ℕ, zero, suc, max, ℤ, pos, negsuc, Bool, true, false, nat_eq, List, [], ◌∷◌, ◌++◌, length, map, Option, Some, None, codes, if◌then◌else◌, slice_get}
 use Rattle.mm_base.specs.declared.world.Builtin.{Builtin}
 use Rattle.mm_base.specs.declared.world.Builtin.TheVariants.{Put, Get, More}
 use Rattle.mm_classes.specs.declared.class.Ty.{Ty}
@@ -336,36 +336,58 @@ lowered_fn a l named_of n public f body temps = record {
 
 -- ---- programs
 
+-- a function that has a body, with its number
+pub record Defined : Type 0 where
+  pub number : ℕ
+  pub function : Function
+  pub body : Stmt
+
+abbrev pub with_body : ℕ → Function → Option Stmt → List Defined → List Defined
+with_body n f None more = more
+with_body n f (Some b) more = record { number = n; function = f; body = b } ∷ more
+
+-- those from number n on, but the one of number m
+abbrev pub others_from : ℕ → ℕ → List Function → List Defined
+others_from m n [] = []
+others_from m n (f ∷ fs) = elim (nat_eq n m) [ true ↦ others_from m (suc n) fs | false ↦ with_body n f f.body (others_from m (suc n) fs) ]
+
+abbrev pub entry_at : ℕ → Option Function → List Defined
+entry_at m None = []
+entry_at m (Some f) = with_body m f f.body []
+
+-- `main`, and all others
+abbrev pub entry : Program → List Defined
+entry p = entry_at (number_of_main p.functions) (slice_get p.functions (number_of_main p.functions))
+
+abbrev pub others : Program → List Defined
+others p = others_from (number_of_main p.functions) 0 p.functions
+
+-- the name of a function in the source
+abbrev pub source_name : Option Function → List ℕ
+source_name None = []
+source_name (Some f) = f.name
+
 abbrev pub name_of : Program → ℕ → List ℕ
-name_of p n = function_named (nat_eq n (number_of_main p.functions)) n
+name_of p n = function_named (nat_eq n (number_of_main p.functions)) n (source_name (slice_get p.functions n))
 
-module _ (p : Program) (l : Layout) (callable : Function → Bool) (temps : Stmt → List (CKind × ℕ)) where
-  abbrev pub fn_of : ℕ → Function → Stmt → c.Function
-  fn_of n f b = lowered_fn (around callable p f) l (name_of p) n (nat_eq n (number_of_main p.functions)) f b (temps b)
+-- a function that may be called
+abbrev pub is_defined : Function → Bool
+is_defined f = f.defined
 
-  abbrev pub function_items : ℕ → Function → Option Stmt → List c.Item → List c.Item
-  function_items n f None more = more
-  function_items n f (Some b) more = c.function (fn_of n f b) ∷ more
+-- `temps` says by a function's number which temporaries are declared in it.
+module _ (p : Program) (l : Layout) (temps : ℕ → List (CKind × ℕ)) where
+  abbrev pub fn_of : Defined → c.Function
+  fn_of d = lowered_fn (around is_defined p d.function) l (name_of p) d.number (nat_eq d.number (number_of_main p.functions)) d.function d.body (temps d.number)
 
-  abbrev pub proto_items : Bool → c.Function → List c.Item → List c.Item
-  proto_items true x more = more
-  proto_items false x more = c.proto (record { is_inline = false; result = x.result; name = x.name; params = x.params }) ∷ more
+  abbrev pub item_of : Defined → c.Item
+  item_of d = c.function (fn_of d)
 
-  abbrev pub head_items : ℕ → Function → Option Stmt → List c.Item → List c.Item
-  head_items n f None more = more
-  head_items n f (Some b) more = proto_items (nat_eq n (number_of_main p.functions)) (fn_of n f b) more
+  abbrev pub head_of : Defined → c.Item
+  head_of d = c.proto (record { is_inline = false; result = (fn_of d).result; name = (fn_of d).name; params = (fn_of d).params })
 
-  abbrev pub functions_from : ℕ → List Function → List c.Item
-  functions_from n [] = []
-  functions_from n (f ∷ fs) = function_items n f f.body (functions_from (suc n) fs)
-
-  abbrev pub heads_from : ℕ → List Function → List c.Item → List c.Item
-  heads_from n [] more = more
-  heads_from n (f ∷ fs) more = head_items n f f.body (heads_from (suc n) fs more)
-
-  -- The heads of all functions but `main`, and then the functions.
+  -- The heads of all functions but `main`, which has none; then `main`, which any function may call; then the others.
   abbrev pub lowered_program : c.Program
-  lowered_program = record { items = heads_from 0 p.functions (functions_from 0 p.functions) }
+  lowered_program = record { items = map head_of (others p) ++ map item_of (entry p ++ others p) }
 
 -- ---- which trees are lowered here
 

@@ -1,5 +1,6 @@
 -- The names of C that stand for locals, temporaries and functions. (Own.)
-use Rattle.std.specs.Prelude.{ℕ, zero, suc, ◌+◌, ◌/◌, ◌%◌, Bool, true, false, List, [], ◌∷◌, ◌++◌, codes, nat_eq}
+use Rattle.std.specs.Prelude.{ℕ, zero, suc, ◌+◌, ◌/◌, ◌%◌, Bool, true, false, List, [], ◌∷◌, ◌++◌, codes, nat_eq, filter}
+use Rattle.mm_c.specs.Tokens.{is_word_byte}
 use Rattle.mm_c.specs.declared.tree.CKind.{CKind}
 use Rattle.mm_c.specs.declared.tree.CKind.TheVariants.{Int, Unsigned, Long, Pointer}
 
@@ -29,7 +30,7 @@ abbrev pub named : Place → List ℕ
 named (local x) = 118 ∷ numeral x
 named (temporary k t) = letter k ∷ numeral t
 
--- `mm_f_0`; `main` has its own
-abbrev pub function_named : Bool → ℕ → List ℕ
-function_named true n = codes "main"
-function_named false n = codes "mm_f_" ++ numeral n
+-- A function by its number and its name in the source, of which the letters, digits and `_` stay: `f3_gcd`. `main` has its own.
+abbrev pub function_named : Bool → ℕ → List ℕ → List ℕ
+function_named true n name = codes "main"
+function_named false n name = 102 ∷ (numeral n ++ 95 ∷ filter is_word_byte name)

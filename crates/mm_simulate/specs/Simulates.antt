@@ -14,18 +14,18 @@ use Rattle.mm_c.specs.Tree as tree
 use Rattle.mm_c.specs.CMeaning as c
 use Rattle.mm_agree.specs.Agree.{Layout, all_in_c, States, Alike}
 use Rattle.mm_agree.specs.Translates.{Translates}
-use Rattle.mm_simulate.specs.Lowered.{lowered_program, IsLoweredStmt}
+use Rattle.mm_simulate.specs.Lowered.{is_defined, lowered_program, IsLoweredStmt}
 
 -- A merged program of functions over scalars: without classes and open-methods, of trees that are lowered here.
 pub record IsScalar (p : Program) : Type 0 where
   pub merged : IsMerged p
   pub classes : p.classes ≡ []
   pub closed : (f : Function) → Has p.functions f → is_open f ≡ false
-  pub trees : (i : ℕ) (f : Function) (b : Stmt) → slice_get p.functions i ≡ Some f → f.body ≡ Some b → IsLoweredStmt (around (λ f. f.defined) p f) b
+  pub trees : (i : ℕ) (f : Function) (b : Stmt) → slice_get p.functions i ≡ Some f → f.body ≡ Some b → IsLoweredStmt (around is_defined p f) b
 
 -- Its program translates it, whatever temporaries are declared and wherever objects would stand.
 pub record Simulates : Type 0 where
-  pub translates : (p : Program) (l : Layout) (temps : Stmt → List (CKind × ℕ)) → IsScalar p → Translates p (lowered_program p l (λ f. f.defined) temps)
+  pub translates : (p : Program) (l : Layout) (temps : ℕ → List (CKind × ℕ)) → IsScalar p → Translates p (lowered_program p l temps)
 
 -- ---- one function, in any program that holds it
 
