@@ -1,6 +1,9 @@
 //! Lowering as code: what it writes is the code that its definition in `mm_simulate` gives.
 #![tactic(auto, using(mm_c::proofs::Views::code_rules))]
 
+mod callee;
 pub mod name;
 pub mod operator;
+pub mod scope;
+pub mod types;
 pub mod write;

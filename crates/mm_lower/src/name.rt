@@ -3,6 +3,7 @@
 ghost use Rattle.std.specs.Prelude.{◌≡◌, IfOk};
 ghost use Rattle.mm_c.specs.declared.tree.CAtom.TheVariants as atom;
 ghost use Rattle.mm_simulate.specs.Names.{function_named};
+ghost use Rattle.mm_c.specs.Tokens as tokens;
 ghost use Rattle.mm_simulate.specs.Lowered as lowered;
 ghost use Rattle.mm_lower.specs.Named.{text_of};
 
@@ -43,15 +44,32 @@ impl Name {
     }
 }
 
-/// The name of a function that isn't `main`, by its number.
+fn is_word_byte(byte: u8) -> bool
+    ensures { result ≡ tokens.is_word_byte byte }
+{
+    byte.is_ascii_alphanumeric() || byte == b'_'
+}
+
+/// The name of a function, by its number and its name in the source; `main` keeps its own.
 #[tactic(auto, using(crate::proofs::Digits::name_rules))]
-pub fn function_name(alloc: Global, is_main: bool, number: u32) -> Result<Text, AllocError>
-    ensures { IfOk result (λ t. t ≡ function_named is_main number) }
+pub fn function_name(
+    alloc: Global,
+    is_main: bool,
+    number: u32,
+    source: &str,
+) -> Result<Text, AllocError>
+    ensures { IfOk result (λ t. t ≡ function_named is_main number source.now) }
 {
     if is_main {
         return Text::from_str(alloc, "main");
     }
-    Ok(Text::from_string(format!(in alloc; "mm_f_{number}")?))
+    let mut name = format!(in alloc; "f{number}_")?;
+    for byte in source.as_bytes() {
+        if is_word_byte(*byte) {
+            name.push(char::from(*byte))?;
+        }
+    }
+    Ok(Text::from_string(name))
 }
 
 /// A number without a suffix.
