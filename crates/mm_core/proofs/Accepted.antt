@@ -20,12 +20,12 @@ main_is_valid = (
   (
     (omega arith, omega arith, (1, (refl, (omega arith, refl)))),
     (
-      (omega arith, inl refl, (refl, (omega arith, refl), omega arith, omega arith, (omega arith, λ r. later (first refl)))),
+      (omega arith, ((λ e. cc), inl refl), (refl, (omega arith, refl), omega arith, omega arith, (omega arith, λ r. later (first refl)))),
       (
-        (omega arith, inl refl, (refl, (omega arith, refl), omega arith, omega arith, (omega arith, λ r. later (first refl)))),
+        (omega arith, ((λ e. cc), inl refl), (refl, (omega arith, refl), omega arith, omega arith, (omega arith, λ r. later (first refl)))),
         (
-          ((inl refl, tt), (((two 0 0 (pos 1), refl, refl, refl, (inl refl, (inl refl, tt))), ((omega arith, λ r. later (first refl)), ((omega arith, λ r. first refl), tt))), tt)),
-          (((λ e. cc), inl refl, refl), tt),
+          ((((λ e. cc), inl refl), tt), (((two 0 0 (pos 1), refl, refl, refl, (((λ e. cc), inl refl), (((λ e. cc), inl refl), tt))), ((omega arith, λ r. later (first refl)), ((omega arith, λ r. first refl), tt))), tt)),
+          ((((λ e. cc), inl refl), refl), tt),
         ),
       ),
     ),

@@ -3,16 +3,16 @@ use Rattle.std.proofs.Common.{◌≡◌, ℕ, zero, suc, ◌≤◌, List, refl, 
 use Rattle.std.specs.Prelude.{pos, Bool, true, false, if◌then◌else◌, Result, Ok, Err, slice_get}
 use Rattle.mm_base.specs.declared.num.Trap.{Trap}
 use Rattle.mm_base.specs.declared.num.Trap.TheVariants as by
-use Rattle.mm_meaning.specs.Run.{Run, Gives, Stops, pure}
+use Rattle.mm_meaning.specs.Run.{Run, Gives, Stops, ◌>>=◌, pure}
 use Rattle.mm_classes.specs.declared.class.Ty.TheVariants as ty
 use Rattle.mm_core.specs.Tree.{Function, Program}
 use Rattle.mm_core.specs.Heads.{same_type, is_main}
 use Rattle.mm_core.specs.State.{Value, Number, Nothing, State, Store, Locals, Stop, Trapped, Spent, From, trap, Operation, settled, at_once, outside, or_trap}
 use Rattle.mm_core.specs.Virtual.{reads}
-use Rattle.mm_core.specs.Meaning.{Flow, Next, Broke, Continued, Returned, get_local, put_local, next_turn, turns_from, loop, result_of, call_of}
+use Rattle.mm_core.specs.Meaning.{Flow, Next, Broke, Continued, Returned, get_local, put_local, next_turn, begun, turns_from, loop, result_of, call_of}
 use Rattle.mm_meaning.specs.Same.{Leaves, Same}
 use Rattle.mm_meaning.proofs.Sames.{same_then, same_pure, same_stop, same_step, same_less, within_same}
-use Rattle.mm_core.specs.Settles.{DeepEnough}
+use Rattle.mm_core.specs.Settles.{LeavesClock, DeepEnough}
 use Rattle.mm_core.proofs.Quiet.{Quiet}
 use Rattle.mm_core.proofs.Congruent.{Congruence, enter_law}
 
@@ -50,12 +50,21 @@ module _ (c : ℕ) where
   next_same Broke m m' h = same_pure Next
   next_same (Returned v) m m' h = same_pure (Returned v)
 
-  turns_same : (n : ℕ) (first first' later later' : From Store Flow) → Same c first first' → Same c later later' → Same c (turns_from n first later) (turns_from n first' later')
-  turns_same zero first first' later later' h k = record { by = λ s j le. (refl, tt) }
-  turns_same (suc n) first first' later later' h k = same_less (omega arith) (same_step (same_then {f = λ flow. next_turn flow (turns_from n later later)} {g = λ flow. next_turn flow (turns_from n later' later')} h (λ flow. next_same flow (turns_from n later later) (turns_from n later' later') (turns_same n later later' later later' k k))))
+  begun_same : (flow : Flow) (m m' n n' : From Store Flow) → Same c m m' → Same c n n' → Same c (begun flow m n) (begun flow m' n')
+  begun_same Next m m' n n' h k = h
+  begun_same Continued m m' n n' h k = k
+  begun_same Broke m m' n n' h k = same_pure Next
+  begun_same (Returned v) m m' n n' h k = same_pure (Returned v)
 
-  loop_same : (first first' later later' : From Store Flow) → Same c first first' → Same c later later' → Same c (loop first later) (loop first' later')
-  loop_same first first' later later' h k = record { by = λ s j le. (turns_same j first first' later later' h k).by s j le }
+  module _ (before before' body body' : From Store Flow) (b : Same c before before') (d : Same c body body') where
+    turns_same : (n : ℕ) (now now' : From Store Flow) → Same c now now' → Same c (turns_from n now before body) (turns_from n now' before' body')
+    turns_same zero now now' h = record { by = λ s j le. (refl, tt) }
+    turns_same (suc n) now now' h =
+        let rest : Same c (body >>= (λ flow. next_turn flow (turns_from n before before body))) (body' >>= (λ flow. next_turn flow (turns_from n before' before' body'))) = same_then d (λ flow. next_same flow (turns_from n before before body) (turns_from n before' before' body') (turns_same n before before' b)) in
+        same_less (omega arith) (same_step (same_then h (λ flow. begun_same flow (body >>= (λ flow. next_turn flow (turns_from n before before body))) (body' >>= (λ flow. next_turn flow (turns_from n before' before' body'))) (turns_from n (pure Next) before body) (turns_from n (pure Next) before' body') rest (turns_same n (pure Next) (pure Next) (same_pure Next)))))
+
+    loop_same : Same c (loop before body) (loop before' body')
+    loop_same = record { by = λ s j le. (turns_same j (pure Next) (pure Next) (same_pure Next)).by s j le }
 
 -- ---- functions
 
@@ -87,7 +96,7 @@ deep c = record {
   on_get = same_get c;
   on_put = same_put c;
   on_outside = same_outside c;
-  on_loop = loop_same c;
+  on_loop = λ before before' body body' b d. loop_same c before before' body body' b d;
   state_then = λ A B m n f g h k. same_then h k;
   state_reads = same_reads c;
   state_once = same_once c;
@@ -105,6 +114,14 @@ calls_same p (suc c) zero m f vs le le' = absurd (let x : ⊥ = omega arith in x
 calls_same p (suc c) (suc n) zero f vs le le' = absurd (let x : ⊥ = omega arith in x)
 calls_same p (suc c) (suc n) (suc m) f vs le le' = same_step (enter_law (λ A x y. Same c x y) (λ A x y. Same c x y) (deep c) p (call_of p n) (call_of p m) (λ h ws. calls_same p c n m h ws (omega arith) (omega arith)) (slice_get p.functions f) vs)
 
--- the law
+-- at every clock, whatever the depth
+calls_leave : (p : Program) (c n f : ℕ) (vs : List Value) → Same c (call_of p n f vs) (call_of p n f vs)
+calls_leave p c zero f vs = same_stop Spent
+calls_leave p c (suc n) f vs = same_less (omega arith) (same_step (enter_law (λ A x y. Same c x y) (λ A x y. Same c x y) (deep c) p (call_of p n) (call_of p n) (λ h ws. calls_leave p c n h ws) (slice_get p.functions f) vs))
+
+-- the laws
+pub clock_left : LeavesClock
+clock_left = record { by = λ p n f vs s k. ((calls_leave p k n f vs).by s k (omega arith)).1 }
+
 pub deep_enough : DeepEnough
 deep_enough = record { by = calls_same }

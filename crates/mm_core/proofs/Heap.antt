@@ -16,6 +16,7 @@ use Rattle.mm_core.specs.State.{Value, Truth, Number, Word, Null, At, Nothing, z
 use Rattle.mm_core.specs.Objects.{fresh, make_object, get_field, put_field}
 use Rattle.mm_core.specs.Valid.{as_pointer, Suits}
 use Rattle.mm_core.specs.Fits.{Shows, Fits, Grew, IsState}
+use Rattle.mm_core.specs.Keeps.{Gave}
 use Rattle.mm_core.proofs.Sets.{and_is}
 
 pub either_way : (b : Bool) → (b ≡ true) ⊎ (b ≡ false)
@@ -87,8 +88,8 @@ module _ (g : List Class) where
   as_fits xs (ty.Ref c) Nothing f = absurd f
 
   pub suits_fits : (xs : List Object) (t u : Ty) (v : Value) → Suits t u → Fits g xs t v → Fits g xs u v
-  suits_fits xs t u v (inl e) f = subst (λ z. Fits g xs z v) e f
-  suits_fits xs t u v (inr e) f = subst (λ z. Fits g xs z v) e (as_fits xs t v f)
+  suits_fits xs t u v (n, inl e) f = subst (λ z. Fits g xs z v) e f
+  suits_fits xs t u v (n, inr e) f = subst (λ z. Fits g xs z v) e (as_fits xs t v f)
 
   pub zero_fits : (xs : List Object) (t : Ty) → is_reference t ≡ false → Fits g xs t (zero_of t)
   zero_fits xs ty.Void e = tt
@@ -100,14 +101,8 @@ module _ (g : List Class) where
 
   -- ---- what an operation does
 
-  -- a value of the type, in a state that goes on from the one before
-  pub record Gave (t : Ty) (before : State) (v : Value) (after : State) : Type 0 where
-    pub fits : Fits g after.objects t v
-    pub grew : Grew before.objects after.objects
-    pub state : IsState g after
-
   abbrev pub Operates : Ty → State → Result (Value × State) Trap → Type 0
-  Operates t s (Ok r) = Gave t s r.0 r.1
+  Operates t s (Ok r) = Gave g t s r.0 r.1
   Operates t s (Err x) = Unit {0}
 
   -- ---- a new object

@@ -5,6 +5,8 @@ mod Dispatched
 mod Accepted
 mod Shapes
 mod Quiet
+pub mod Related
+pub mod Unchanged
 pub mod Congruent
 pub mod Scalars
 pub mod Heap

@@ -12,7 +12,7 @@ use Rattle.mm_core.specs.Tree.{Function, Program}
 use Rattle.mm_core.specs.Heads.{same_type, is_main}
 use Rattle.mm_core.specs.State.{Value, Number, Nothing, State, Store, Locals, Stop, Trapped, Spent, From, Operation, settled, at_once, outside, or_trap}
 use Rattle.mm_core.specs.Virtual.{Calls, reads}
-use Rattle.mm_core.specs.Meaning.{Flow, Next, Broke, Continued, Returned, get_local, put_local, next_turn, turns_from, loop, result_of, enter_if, setting_of, call_of}
+use Rattle.mm_core.specs.Meaning.{Flow, Next, Broke, Continued, Returned, get_local, put_local, next_turn, begun, turns_from, loop, result_of, enter_if, setting_of, call_of}
 use Rattle.mm_core.specs.Run.{outcome_of, number_of_main, starting}
 use Rattle.mm_core.specs.Settles.{Before, SettlesAt, Settles}
 use Rattle.mm_core.proofs.Quiet.{order, Follows, Quiet}
@@ -127,24 +127,61 @@ next_adds Continued m n h = h
 next_adds Broke m n h = adds_pure Spent BeforeStore store_order Next
 next_adds (Returned v) m n h = adds_pure Spent BeforeStore store_order (Returned v)
 
-turns_grow : (n : ℕ) (first later : From Store Flow) → Grows BeforeStore first → Grows BeforeStore later → Grows BeforeStore (turns_from n first later)
-turns_grow zero first later h k = grows_stop Spent BeforeStore store_order Spent
-turns_grow (suc n) first later h k = grows_step Spent BeforeStore store_order _ (then_grows first (λ flow. next_turn flow (turns_from n later later)) h (λ flow. next_grows flow (turns_from n later later) (turns_grow n later later k k)))
+begun_grows : (flow : Flow) (m n : From Store Flow) → Grows BeforeStore m → Grows BeforeStore n → Grows BeforeStore (begun flow m n)
+begun_grows Next m n h k = h
+begun_grows Continued m n h k = k
+begun_grows Broke m n h k = grows_pure Spent BeforeStore store_order Next
+begun_grows (Returned v) m n h k = grows_pure Spent BeforeStore store_order (Returned v)
 
-turns_add : (n : ℕ) (first first' later later' : From Store Flow) → Goes BeforeStore first first' → Goes BeforeStore later later' → Adds Spent BeforeStore (turns_from n first later) (turns_from (suc n) first' later')
-turns_add zero first first' later later' h k = record { by = λ s j. goes_on ((turns_grow 1 first' later' h.second k.second).by s (suc j)) }
-turns_add (suc n) first first' later later' h k =
-    let g : (flow : Flow) → Grows BeforeStore (next_turn flow (turns_from (suc n) later' later')) = λ flow. next_grows flow (turns_from (suc n) later' later') (turns_grow (suc n) later' later' k.second k.second) in
-    adds_step Spent BeforeStore store_order (runs.◌>>=◌ first (λ flow. next_turn flow (turns_from n later later))) (runs.◌>>=◌ first' (λ flow. next_turn flow (turns_from (suc n) later' later')))
-    (adds_then Spent BeforeStore store_order first first' (λ flow. next_turn flow (turns_from n later later)) (λ flow. next_turn flow (turns_from (suc n) later' later')) h.adds (λ flow. next_adds flow (turns_from n later later) (turns_from (suc n) later' later') (turns_add n later later' later later' k k)) g)
-    (then_grows first' (λ flow. next_turn flow (turns_from (suc n) later' later')) h.second g)
+begun_adds : (flow : Flow) (m m' n n' : From Store Flow) → Adds Spent BeforeStore m m' → Adds Spent BeforeStore n n' → Adds Spent BeforeStore (begun flow m n) (begun flow m' n')
+begun_adds Next m m' n n' h k = h
+begun_adds Continued m m' n n' h k = k
+begun_adds Broke m m' n n' h k = adds_pure Spent BeforeStore store_order Next
+begun_adds (Returned v) m m' n n' h k = adds_pure Spent BeforeStore store_order (Returned v)
 
-loop_goes : (first first' later later' : From Store Flow) → Goes BeforeStore first first' → Goes BeforeStore later later' → Goes BeforeStore (loop first later) (loop first' later')
-loop_goes first first' later later' h k = record {
-  first = record { by = λ s j. (turns_grow j first later h.first k.first).by s j };
-  second = record { by = λ s j. (turns_grow j first' later' h.second k.second).by s j };
-  adds = record { by = λ s j. (turns_add j first first' later later' h k).by s j };
-}
+next_go : Goes BeforeStore (runs.pure Next) (runs.pure Next)
+next_go = goes_pure BeforeStore store_order Flow Next
+
+-- what follows where a turn begins: its body, and the turns after it
+abbrev rest_of : ℕ → From Store Flow → From Store Flow → From Store Flow
+rest_of n before body = runs.◌>>=◌ body (λ flow. next_turn flow (turns_from n before before body))
+
+abbrev begins : ℕ → From Store Flow → From Store Flow → Flow → From Store Flow
+begins n before body flow = begun flow (rest_of n before body) (turns_from n (runs.pure Next) before body)
+
+begin_grows : (n : ℕ) (before body : From Store Flow) → Grows BeforeStore body → Grows BeforeStore (turns_from n before before body) → Grows BeforeStore (turns_from n (runs.pure Next) before body) → (flow : Flow) → Grows BeforeStore (begins n before body flow)
+begin_grows n before body d t u flow = begun_grows flow (rest_of n before body) (turns_from n (runs.pure Next) before body) (then_grows body (λ flow. next_turn flow (turns_from n before before body)) d (λ flow. next_grows flow (turns_from n before before body) t)) u
+
+module _ (before body : From Store Flow) (b : Grows BeforeStore before) (d : Grows BeforeStore body) where
+  turns_grow : (n : ℕ) (now : From Store Flow) → Grows BeforeStore now → Grows BeforeStore (turns_from n now before body)
+  turns_grow zero now h = grows_stop Spent BeforeStore store_order Spent
+  turns_grow (suc n) now h = grows_step Spent BeforeStore store_order _ (then_grows now (begins n before body) h (begin_grows n before body d (turns_grow n before b) (turns_grow n (runs.pure Next) next_go.first)))
+
+module _ (before before' body body' : From Store Flow) (b : Goes BeforeStore before before') (d : Goes BeforeStore body body') where
+  abbrev grown : (n : ℕ) (now : From Store Flow) → Grows BeforeStore now → Grows BeforeStore (turns_from n now before' body')
+  grown = turns_grow before' body' b.second d.second
+
+  begins_grown : (n : ℕ) (flow : Flow) → Grows BeforeStore (begins n before' body' flow)
+  begins_grown n = begin_grows n before' body' d.second (grown n before' b.second) (grown n (runs.pure Next) next_go.first)
+
+  begin_adds : (n : ℕ) → Adds Spent BeforeStore (turns_from n before before body) (turns_from (suc n) before' before' body') → Adds Spent BeforeStore (turns_from n (runs.pure Next) before body) (turns_from (suc n) (runs.pure Next) before' body') → (flow : Flow) → Adds Spent BeforeStore (begins n before body flow) (begins (suc n) before' body' flow)
+  begin_adds n t u flow = begun_adds flow (rest_of n before body) (rest_of (suc n) before' body') (turns_from n (runs.pure Next) before body) (turns_from (suc n) (runs.pure Next) before' body')
+      (adds_then Spent BeforeStore store_order body body' (λ flow. next_turn flow (turns_from n before before body)) (λ flow. next_turn flow (turns_from (suc n) before' before' body')) d.adds (λ flow. next_adds flow (turns_from n before before body) (turns_from (suc n) before' before' body') t) (λ flow. next_grows flow (turns_from (suc n) before' before' body') (grown (suc n) before' b.second)))
+      u
+
+  turns_add : (n : ℕ) (now now' : From Store Flow) → Goes BeforeStore now now' → Adds Spent BeforeStore (turns_from n now before body) (turns_from (suc n) now' before' body')
+  turns_add zero now now' h = record { by = λ s j. goes_on ((grown 1 now' h.second).by s (suc j)) }
+  turns_add (suc n) now now' h =
+      adds_step Spent BeforeStore store_order (runs.◌>>=◌ now (begins n before body)) (runs.◌>>=◌ now' (begins (suc n) before' body'))
+      (adds_then Spent BeforeStore store_order now now' (begins n before body) (begins (suc n) before' body') h.adds (begin_adds n (turns_add n before before' b) (turns_add n (runs.pure Next) (runs.pure Next) next_go)) (begins_grown (suc n)))
+      (then_grows now' (begins (suc n) before' body') h.second (begins_grown (suc n)))
+
+  loop_goes : Goes BeforeStore (loop before body) (loop before' body')
+  loop_goes = record {
+    first = record { by = λ s j. (turns_grow before body b.first d.first j (runs.pure Next) next_go.first).by s j };
+    second = record { by = λ s j. (grown j (runs.pure Next) next_go.first).by s j };
+    adds = record { by = λ s j. (turns_add j (runs.pure Next) (runs.pure Next) next_go).by s j };
+  }
 
 -- ---- functions
 
@@ -183,14 +220,14 @@ module _ (f : Function) where
   result_later _ _ (both_stop e) = both_stop e
   result_later _ y (goes_on {s = s} b) = goes_on (result_before s.state y b)
 
-abbrev begun : Locals → State → Store
-begun locals s = record { locals = locals; state = s }
+abbrev on_locals : Locals → State → Store
+on_locals locals s = record { locals = locals; state = s }
 
-body_goes : (f : Function) (locals : Locals) (m n : From Store Flow) → Goes BeforeStore m n → Goes Before (λ s k. result_of f (m (begun locals s) k)) (λ s k. result_of f (n (begun locals s) k))
+body_goes : (f : Function) (locals : Locals) (m n : From Store Flow) → Goes BeforeStore m n → Goes Before (λ s k. result_of f (m (on_locals locals s) k)) (λ s k. result_of f (n (on_locals locals s) k))
 body_goes f locals m n h = record {
-  first = record { by = λ s k. result_before f s (m (begun locals s) k) (h.first.by (begun locals s) k) };
-  second = record { by = λ s k. result_before f s (n (begun locals s) k) (h.second.by (begun locals s) k) };
-  adds = record { by = λ s k. result_later f (m (begun locals s) k) (n (begun locals s) (suc k)) (h.adds.by (begun locals s) k) };
+  first = record { by = λ s k. result_before f s (m (on_locals locals s) k) (h.first.by (on_locals locals s) k) };
+  second = record { by = λ s k. result_before f s (n (on_locals locals s) k) (h.second.by (on_locals locals s) k) };
+  adds = record { by = λ s k. result_later f (m (on_locals locals s) k) (n (on_locals locals s) (suc k)) (h.adds.by (on_locals locals s) k) };
 }
 
 -- ---- all of it

@@ -7,12 +7,12 @@ use Rattle.mm_base.specs.declared.world.Builtin.TheVariants.{Put, Get, More}
 use Rattle.mm_base.specs.World.{World, call_builtin, got}
 use Rattle.mm_classes.specs.declared.class.Ty.{Ty}
 use Rattle.mm_classes.specs.Classes.{Class}
-use Rattle.mm_classes.specs.Subobjects.{Path}
+use Rattle.mm_classes.specs.Subobjects.{Path, subobjects_of}
 use Rattle.mm_meaning.specs.Later.{IsOrder}
-use Rattle.mm_core.specs.State.{Value, Truth, Number, Word, Null, At, Nothing, State, Operation}
+use Rattle.mm_core.specs.State.{Value, Truth, Number, Word, Null, At, Nothing, State, on_some, Operation}
 use Rattle.mm_core.specs.Heads.{class_in}
-use Rattle.mm_core.specs.Objects.{make_object, get_field, put_field}
-use Rattle.mm_core.specs.Moves.{to_base, moved_value, kept, move_along, path_between, move_back, result_back}
+use Rattle.mm_core.specs.Objects.{make_object, make_variable, get_field, put_field}
+use Rattle.mm_core.specs.Moves.{to_base, moved_value, kept, move_along, move_to, path_between, move_back, result_back}
 use Rattle.mm_core.specs.Meaning.{ints_of, answered, ask}
 use Rattle.mm_meaning.specs.Same.{IsFront}
 use Rattle.mm_core.specs.Settles.{Before}
@@ -38,6 +38,13 @@ same_front zs = ([], sym (append-nil zs))
 
 pub make_quiet : (g : List Class) (c : ℕ) → Quiet (make_object g c)
 make_quiet g c = record { by = λ s. record { put = same_front s.world.put } }
+
+variable_follows : (g : List Class) (o : Option Ty) (s : State) → Follows s (make_variable g o s)
+variable_follows g None s = tt
+variable_follows g (Some t) s = record { put = same_front s.world.put }
+
+pub variable_quiet : (g : List Class) (o : Option Ty) → Quiet (make_variable g o)
+variable_quiet g o = record { by = variable_follows g o }
 
 get_follows : (f : ℕ) (p : Value) (s : State) → Follows s (get_field f p s)
 get_follows f (At o t) s = order.itself s
@@ -69,6 +76,13 @@ kept_follows s (Err t) = tt
 
 pub move_quiet : (g : List Class) (q : Path) (v : Value) → Quiet (move_along g q v)
 move_quiet g q v = record { by = λ s. kept_follows s (moved_value g (to_base q) s v) }
+
+some_quiet : (g : List Class) (o : Option Path) (v : Value) (s : State) → Follows s (on_some o (λ q. move_along g q v s))
+some_quiet g None v s = tt
+some_quiet g (Some q) v s = (move_quiet g q v).by s
+
+pub to_quiet : (g : List Class) (c n : ℕ) (v : Value) → Quiet (move_to g c n v)
+to_quiet g c n v = record { by = λ s. some_quiet g (slice_get (subobjects_of g c) n) v s }
 
 back_quiet : (g : List Class) (o : Option Path) (v : Value) → Quiet (move_back g o v)
 back_quiet g None v = record { by = λ s. order.itself s }

@@ -5,6 +5,7 @@ use Rattle.mm_base.specs.Num.{is_int}
 use Rattle.std.proofs.Common.{◌≡◌, ℕ, zero, suc, ◌<◌, List, [], ◌∷◌, ◌++◌, length, refl, sym, subst, ap, ◌∙◌, inl, inr, arith}
 use Rattle.std.specs.Prelude.{◌⊎◌, pos, Bool, true, false, not, IsTrue, nat_eq, if◌then◌else◌, Option, Some, None, Result, Ok, Err, slice_get, ℤ, nat_lt, ◌+◌, ◌*◌}
 use Rattle.std.proofs.lemmas.Bool.{eq-eqb, eqb-true}
+use Rattle.std.proofs.lemmas.Option.{slice_get-get_or}
 use Rattle.mm_base.specs.declared.num.Trap.{Trap}
 use Rattle.mm_base.specs.declared.world.Builtin.{Builtin}
 use Rattle.mm_base.specs.declared.world.Builtin.TheVariants.{Put, Get, More}
@@ -22,22 +23,18 @@ use Rattle.mm_classes.proofs.Answering.{Has-get_or}
 use Rattle.mm_classes.proofs.Compose.{compose-sub, compose-end}
 use Rattle.mm_core.specs.Tree.{Expr, int, unsigned, bool, null, local, set_local, field, set_field, not_null, move, convert, binary, negation, both, either, choose, call, virtual_call, open_call, builtin, new, step_local, step_field, compound, Exprs, no_exprs, expr_and, Function, Program, Stmt, block, run, if_else, while_do, do_while, for_do, break, continue, return_nothing, return, make, Stmts, no_stmts, stmt_and}
 use Rattle.mm_core.specs.Heads.{class_in, class_shown, is_reference, field_type, params_in, result_in, argument_types, type_at, is_open, same_type, type_code}
-use Rattle.mm_core.specs.State.{Value, Truth, Number, Word, Null, At, Nothing, Object, State, Store, Locals, with_local, class_of, Stop, From, Operation, settled, or_trap}
+use Rattle.mm_core.specs.State.{Value, Truth, Number, Word, Null, At, Nothing, Object, State, Store, Locals, with_local, class_of, Stop, From, Operation, settled, or_trap, on_some}
 use Rattle.mm_core.specs.Scalar.{is_true, operate, changed, compounded, converted}
-use Rattle.mm_core.specs.Objects.{make_object, get_field, put_field}
-use Rattle.mm_core.specs.Moves.{move_along, tested_pointer}
+use Rattle.mm_core.specs.Objects.{make_object, make_variable, get_field, put_field}
+use Rattle.mm_core.specs.Moves.{move_along, move_to, tested_pointer}
 use Rattle.mm_core.specs.Virtual.{Calls, call_virtual}
 use Rattle.mm_core.specs.Open.{call_open}
-use Rattle.mm_core.specs.Meaning.{ask, Setting, put_local, does, value_of, values_of, setting_of, answered, Flow, Next, Broke, Continued, Returned, unless_left, next_turn, turns_from, tested, then_flow, flow_of, flows_of}
-use Rattle.mm_core.specs.Valid.{Around, type_of, types_of, shows, AllSuit, IsVirtualMethod, IsValid, AreValid, is_number, result_of, AreBranches, as_pointer, result_of_function, result_of_method, IsTest, IsValidStmt, AreValidStmts, sets, set_in}
+use Rattle.mm_core.specs.Meaning.{ask, Setting, put_local, does, value_of, values_of, setting_of, answered, Flow, Next, Broke, Continued, Returned, unless_left, next_turn, begun, turns_from, loop, tested, then_flow, flow_of, flows_of}
+use Rattle.mm_core.specs.Valid.{Around, type_of, types_of, shows, AllSuit, IsVirtualMethod, IsValid, AreValid, is_number, type_answered, AreBranches, as_pointer, result_of_function, result_of_method, IsTest, IsValidStmt, AreValidStmts, sets, set_in}
 use Rattle.mm_core.specs.Fits.{Shows, Fits, AllFit, Grew, IsState}
+use Rattle.mm_core.specs.Keeps.{On, Gave, Frame, Known}
 use Rattle.mm_core.proofs.Scalars.{ResultFits, operate_fits, converted_fits, changed_fits, compounded_fits}
-use Rattle.mm_core.proofs.Heap.{grew_self, grew_on, fits_grew, suits_fits, Gave, Operates, make_operates, get_operates, put_operates, as_fits, either_way}
-
--- what a run gives has the property
-abbrev pub On : {S A : Type 0} → (A → S → Type 0) → Run Stop S A → Type 0
-On P (Gives v s k) = P v s
-On P (Stops x s) = Unit {0}
+use Rattle.mm_core.proofs.Heap.{grew_self, grew_on, fits_grew, suits_fits, Operates, make_operates, get_operates, put_operates, as_fits, either_way}
 
 module _ {S A B : Type 0} where
   on_then : (P : A → S → Type 0) (Q : B → S → Type 0) (x : Run Stop S A) (f : A → From S B) → On P x → ((v : A) (s : S) (k : ℕ) → P v s → On Q (f v s k)) → On Q (runs.then x f)
@@ -53,23 +50,24 @@ module _ {S A : Type 0} where
   on_weaker P Q (Gives v s k) f h = f v s h
   on_weaker P Q (Stops x s) f h = tt
 
-module _ (p : Program) (callable : Function → Bool) (types : List Ty) (arguments : ℕ) (calls : Calls) where
+module _ (frame : Frame) where
+  abbrev p : Program
+  p = frame.program
+
+  abbrev types : List Ty
+  types = frame.types
+
+  abbrev calls : Calls
+  calls = frame.calls
+
   abbrev pub g : List Class
-  g = p.classes
+  g = frame.program.classes
 
   abbrev pub a : Around
-  a = record { classes = p.classes; functions = p.functions; callable = callable; locals = types; arguments = arguments }
+  a = record { classes = frame.program.classes; functions = frame.program.functions; callable = frame.callable; locals = frame.types; arguments = frame.arguments }
 
   abbrev pub w : Setting
-  w = setting_of p calls
-
-  -- what is known of classes and calls
-  pub record Known : Type 0 where
-    pub listed : IsClassList g
-    pub plain : (c f : ℕ) → is_reference (field_type g c f) ≡ false
-    pub calls_fit : (n : ℕ) (f : Function) (vs : List Value) (s : State) (k : ℕ) → slice_get p.functions n ≡ Some f → is_open f ≡ false → IsTrue (callable f) → IsState g s → AllFit g s.objects (argument_types g f) vs → On (Gave g f.result s) (calls n vs s k)
-    pub opens_fit : (n : ℕ) (f : Function) (vs : List Value) (s : State) (k : ℕ) → slice_get p.functions n ≡ Some f → is_open f ≡ true → IsTrue (callable f) → IsState g s → AllFit g s.objects (argument_types g f) vs → On (Gave g f.result s) (call_open p calls n vs s k)
-    pub virtuals_fit : (c n : ℕ) (x : Member) (v : Value) (vs : List Value) (s : State) (k : ℕ) → IsVirtualMethod g c n x → IsState g s → Fits g s.objects (ty.Ref c) v → AllFit g s.objects (params_in x.kind) vs → On (Gave g (result_in x.kind) s) (call_virtual p calls n v vs s k)
+  w = setting_of frame.program frame.calls
 
   module _ (known : List ℕ) where
     abbrev pub LocalsFit : List Object → Locals → Type 0
@@ -153,7 +151,7 @@ module _ (p : Program) (callable : Function → Bool) (types : List Ty) (argumen
 
     -- ---- moves
 
-    module _ (ok : Known) where
+    module _ (ok : Known frame) where
       move_operates : (c n : ℕ) (t : Ty) (v : Value) (s : State) → class_in t ≡ Some c → IsNode g c n → IsState g s → Fits g s.objects t v → Operates g (shows t (end_of (node g c n))) s (move_along g (node g c n) v s)
       move_operates c n (ty.Ptr d) Null s e l h f = record { fits = tt; grew = grew_self s.objects; state = h }
       move_operates c n (ty.Ptr d) (At o u) s e l h f = at_node c n d o u s e l h f tt
@@ -180,6 +178,9 @@ module _ (p : Program) (callable : Function → Bool) (types : List Ty) (argumen
       move_operates c n (ty.Ref d) Nothing s e l h f = absurd f
       move_operates c n t v s e l h f = cc
 
+      moved_operates : (c n : ℕ) (t : Ty) (v : Value) (s : State) → class_in t ≡ Some c → IsNode g c n → IsState g s → Fits g s.objects t v → Operates g (shows t (end_of (node g c n))) s (move_to g c n v s)
+      moved_operates c n t v s e l h f = subst (λ o. Operates g (shows t (end_of (node g c n))) s (on_some o (λ q. move_along g q v s))) (sym (slice_get-get_or (subobjects_of g c) n [] l)) (move_operates c n t v s e l h f)
+
       tested_fits : (c : ℕ) (v : Value) (s : Store) → Fits g s.state.objects (ty.Ptr c) v → ResultFits g s.state.objects (ty.Ref c) (tested_pointer v)
       tested_fits c (At o t) s f = f
       tested_fits c Null s f = tt
@@ -203,7 +204,7 @@ module _ (p : Program) (callable : Function → Bool) (types : List Ty) (argumen
       one_or_none true = refl
       one_or_none false = refl
 
-      pub ask_operates : (b : Builtin) (vs : List Value) (s : State) → IsState g s → Operates g (result_of b) s (ask b vs s)
+      pub ask_operates : (b : Builtin) (vs : List Value) (s : State) → IsState g s → Operates g (type_answered b) s (ask b vs s)
       ask_operates Put [] s h = record { fits = tt; grew = grew_self s.objects; state = record { fields = h.fields; input = h.input } }
       ask_operates Put (v ∷ vs) s h = record { fits = tt; grew = grew_self s.objects; state = record { fields = h.fields; input = h.input } }
       ask_operates Get vs s h = got_operates (slice_get s.world.input s.world.taken) s h (λ z e. h.input z (slice-Has s.world.input s.world.taken z e))
@@ -268,7 +269,7 @@ module _ (p : Program) (callable : Function → Bool) (types : List Ty) (argumen
             as_type (ty.Ref v.0) (type_of a (not_null e)) s _ (ap ty.Ref (sym (ap class_shown v.1))) (after (type_of a e) (ty.Ref v.0) y s m _ d
             (or_did (ty.Ref v.0) (tested_pointer y) m j d.fine (tested_fits v.0 y m (subst (λ z. Fits g m.state.objects z y) v.1 d.fits)))))
         value_fits (move c n e) s k v h = on_then (Did (type_of a e) s) (Did (type_of a (move c n e)) s) _ _ (value_fits e s k v.4 h) (λ y m j d.
-            after (type_of a e) (type_of a (move c n e)) y s m _ d (does_did (type_of a (move c n e)) (move_along g (node g c n) y) m j d.fine (move_operates c n (type_of a e) y m.state v.0 v.3 d.fine.state d.fits)))
+            after (type_of a e) (type_of a (move c n e)) y s m _ d (does_did (type_of a (move c n e)) (move_to g c n y) m j d.fine (moved_operates c n (type_of a e) y m.state v.0 v.3 d.fine.state d.fits)))
         value_fits (convert t e) s k v h = on_then (Did (type_of a e) s) (Did (type_of a (convert t e)) s) _ _ (value_fits e s k v.1 h) (λ y m j d.
             did_on (type_of a e) (type_of a (convert t e)) y (converted t y) s m m d (did_at (type_of a (convert t e)) (converted t y) m d.fine (converted_fits g m.state.objects t (type_of a e) y v.0 d.fits)))
         value_fits (binary op d e) s k v h = on_then (Did (type_of a d) s) (Did (type_of a (binary op d e)) s) _ _ (value_fits d s k v.1 h) (λ x m j q.
@@ -299,8 +300,8 @@ module _ (p : Program) (callable : Function → Bool) (types : List Ty) (argumen
             let is : result_in x.kind ≡ type_of a (virtual_call n e es) = sym (ap (λ t. result_of_method (slice_get (members_of g (class_shown t)) n)) v.2.0 ∙ ap result_of_method v.3.0) in
             after (type_of a e) (type_of a (virtual_call n e es)) y s m _ q (all_after (types_of a es) (type_of a (virtual_call n e es)) vs m z _ r (as_type (result_in x.kind) (type_of a (virtual_call n e es)) z _ is
             (gave_did (result_in x.kind) z _ r.fine (ok.virtuals_fit c n x y vs z.state i v.3 r.fine.state fy (all_suit z.state.objects (types_of a es) (params_in x.kind) vs v.4 r.fits)))))))
-        value_fits (builtin b es) s k v h = on_then (DidAll (types_of a es) s) (Did (result_of b) s) _ _ (values_fit es s k v.1 h) (λ vs m j q.
-            all_after (types_of a es) (result_of b) vs s m _ q (does_did (result_of b) (ask b vs) m j q.fine (ask_operates b vs m.state q.fine.state)))
+        value_fits (builtin b es) s k v h = on_then (DidAll (types_of a es) s) (Did (type_answered b) s) _ _ (values_fit es s k v.1 h) (λ vs m j q.
+            all_after (types_of a es) (type_answered b) vs s m _ q (does_did (type_answered b) (ask b vs) m j q.fine (ask_operates b vs m.state q.fine.state)))
         value_fits (new c) s k v h = does_did (ty.Ptr c) (make_object g c) s k h (make_operates g ok.plain c s.state h.state)
         value_fits (step_local x c) s k v h = on_then (Did (type_at types x) s) (Did (type_at types x) s) _ _ (or_did (type_at types x) (changed c (s.locals x)) s k h (changed_fits g s.state.objects c (type_at types x) (s.locals x) v.1 (number_local x s v.0 v.1 h))) (λ y m j d.
             let z = written x y m d.fine d.fits in
@@ -341,7 +342,7 @@ module _ (p : Program) (callable : Function → Bool) (types : List Ty) (argumen
   fewer : (more known : List ℕ) (s : Store) → Fine (more ++ known) s → Fine known s
   fewer more known s h = record { state = h.state; locals = λ x l n. h.locals x l (λ r. Has-right more known (n r)) }
 
-  module _ (ok : (known : List ℕ) → Known) (result : Ty) where
+  module _ (ok : Known frame) (result : Ty) where
     -- how a statement may go on
     abbrev pub MayGo : Bool → List Object → Flow → Type 0
     MayGo in_loop xs Next = Unit {0}
@@ -374,10 +375,10 @@ module _ (p : Program) (callable : Function → Bool) (types : List Ty) (argumen
       next : Fine (more ++ known) after
 
     run_other : (e : Expr) (known : List ℕ) (s : Store) (k : ℕ) → IsValid a known e → Fine known s → On (Ran [] known s) (value_of w e s k)
-    run_other e known s k v h = on_weaker (Did known (type_of a e) s) (Ran [] known s) _ (λ y m d. record { grew = d.grew; fine = d.fine; next = d.fine }) (value_fits known (ok known) e s k v h)
+    run_other e known s k v h = on_weaker (Did known (type_of a e) s) (Ran [] known s) _ (λ y m d. record { grew = d.grew; fine = d.fine; next = d.fine }) (value_fits known ok e s k v h)
 
     run_known : (e : Expr) (known : List ℕ) (s : Store) (k : ℕ) → IsValid a known e → Fine known s → On (Ran (set_in e) known s) (value_of w e s k)
-    run_known (set_local x e) known s k v h = on_then (Did known (type_of a e) s) (Ran (x ∷ []) known s) _ _ (value_fits known (ok known) e s k v.2 h) (λ y m j d.
+    run_known (set_local x e) known s k v h = on_then (Did known (type_of a e) s) (Ran (x ∷ []) known s) _ _ (value_fits known ok e s k v.2 h) (λ y m j d.
         let f = suits_fits g m.state.objects (type_of a e) (type_at types x) y v.1 d.fits in
         let z = known_too x y known m d.fine f in
         record { grew = d.grew; fine = fewer (x ∷ []) known _ z; next = z })
@@ -392,12 +393,15 @@ module _ (p : Program) (callable : Function → Bool) (types : List Ty) (argumen
 
     -- a test, and what follows
     pub tested_went : (known : List ℕ) (e : Expr) (body : From Store Flow) (s : Store) (k : ℕ) → IsTest a known e → Fine known s → ((m : Store) (j : ℕ) → Fine known m → On (Went true [] known m) (body m j)) → On (Went true [] known s) (tested (value_of w e) body s k)
-    tested_went known e body s k v h f = on_then (Did known (type_of a e) s) (Went true [] known s) _ _ (value_fits known (ok known) e s k v.1 h) (λ y m j d.
+    tested_went known e body s k v h f = on_then (Did known (type_of a e) s) (Went true [] known s) _ _ (value_fits known ok e s k v.1 h) (λ y m j d.
         on_weaker (Went true [] known m) (Went true [] known s) _ (λ flow z q. went_on true [] known s m z flow d.grew q) (on_if (Went true [] known m) (is_true y) body _ m j (f m j d.fine) (plainly true known m Broke d.fine refl)))
 
     -- a new object is a reference
     made_went : (c : ℕ) (known : List ℕ) (s : Store) (k : ℕ) → Fine known s → On (Did known (ty.Ref c) s) (does (make_object g c) s k)
-    made_went c known s k h = (let o = make_operates g (ok known).plain c s.state h.state in record { fits = o.fits; grew = o.grew; fine = fine_on known s _ h o.grew o.state })
+    made_went c known s k h = (let o = make_operates g ok.plain c s.state h.state in record { fits = o.fits; grew = o.grew; fine = fine_on known s _ h o.grew o.state })
+
+    variable_went : (x c : ℕ) (known : List ℕ) (s : Store) (k : ℕ) → x < length types → type_at types x ≡ ty.Ref c → Fine known s → On (Did known (ty.Ref c) s) (does (make_variable g (slice_get types x)) s k)
+    variable_went x c known s k l e h = subst (λ o. On (Did known (ty.Ref c) s) (does (make_variable g o) s k)) (sym (slice_get-get_or types x ty.Void l ∙ ap Some e)) (made_went c known s k h)
 
     -- turns, each from a store in which what is known fits
     abbrev pub Turn : List ℕ → From Store Flow → Type 0
@@ -409,11 +413,28 @@ module _ (p : Program) (callable : Function → Bool) (types : List Ty) (argumen
     next_went in_loop known Broke again s k f h r = plainly in_loop known s Next h tt
     next_went in_loop known (Returned v) again s k f h r = plainly in_loop known s (Returned v) h f
 
-    turns_went : (in_loop : Bool) (known : List ℕ) (n : ℕ) (now later' : From Store Flow) → Turn known now → Turn known later' → (s : Store) (k : ℕ) → Fine known s → On (Went in_loop [] known s) (turns_from n now later' s k)
-    turns_went in_loop known zero now later' t u s k h = tt
-    turns_went in_loop known (suc n) now later' t u s zero h = tt
-    turns_went in_loop known (suc n) now later' t u s (suc k) h = on_then (Went true [] known s) (Went in_loop [] known s) (now s k) _ (t s k h) (λ flow m j q.
-        on_weaker (Went in_loop [] known m) (Went in_loop [] known s) _ (λ f z r. went_on in_loop [] known s m z f q.grew r) (next_went in_loop known flow (turns_from n later' later') m j q.goes q.fine (turns_went in_loop known n later' later' u u m j q.fine)))
+    -- what stands before a body may leave the turn or the loop
+    begun_went : (in_loop : Bool) (known : List ℕ) (flow : Flow) (rest again : From Store Flow) (s : Store) (k : ℕ) → MayGo true s.state.objects flow → Fine known s → On (Went in_loop [] known s) (rest s k) → On (Went in_loop [] known s) (again s k) → On (Went in_loop [] known s) (begun flow rest again s k)
+    begun_went in_loop known Next rest again s k f h r i = r
+    begun_went in_loop known Continued rest again s k f h r i = i
+    begun_went in_loop known Broke rest again s k f h r i = plainly in_loop known s Next h tt
+    begun_went in_loop known (Returned v) rest again s k f h r i = plainly in_loop known s (Returned v) h f
+
+    then_went : (in_loop : Bool) (known : List ℕ) (s m : Store) (x : Run Stop Store Flow) → Grew s.state.objects m.state.objects → On (Went in_loop [] known m) x → On (Went in_loop [] known s) x
+    then_went in_loop known s m x gr h = on_weaker (Went in_loop [] known m) (Went in_loop [] known s) x (λ flow z q. went_on in_loop [] known s m z flow gr q) h
+
+    module _ (in_loop : Bool) (known : List ℕ) (before body : From Store Flow) (b : Turn known before) (d : Turn known body) where
+      turns_went : (n : ℕ) (now : From Store Flow) → Turn known now → (s : Store) (k : ℕ) → Fine known s → On (Went in_loop [] known s) (turns_from n now before body s k)
+      turns_went zero now t s k h = tt
+      turns_went (suc n) now t s zero h = tt
+      turns_went (suc n) now t s (suc k) h = on_then (Went true [] known s) (Went in_loop [] known s) (now s k) _ (t s k h) (λ flow m j q.
+          then_went in_loop known s m _ q.grew (begun_went in_loop known flow _ _ m j q.goes q.fine
+          (on_then (Went true [] known m) (Went in_loop [] known m) (body m j) _ (d m j q.fine) (λ end z i r.
+          then_went in_loop known m z _ r.grew (next_went in_loop known end (turns_from n before before body) z i r.goes r.fine (turns_went n before b z i r.fine))))
+          (turns_went n (runs.pure Next) (λ z i f. plainly true known z Next f tt) m j q.fine)))
+
+      loop_went : (s : Store) (k : ℕ) → Fine known s → On (Went in_loop [] known s) (loop before body s k)
+      loop_went s k h = turns_went k (runs.pure Next) (λ z i f. plainly true known z Next f tt) s k h
 
     -- what a loop's body may do, a statement beside it may do
     pub widen : (b : Bool) (xs : List Object) (flow : Flow) → MayGo b xs flow → MayGo true xs flow
@@ -443,28 +464,23 @@ module _ (p : Program) (callable : Function → Bool) (types : List Ty) (argumen
       pub flow_fits : (st : Stmt) (b : Bool) (known : List ℕ) (s : Store) (k : ℕ) → IsValidStmt a result b known st → Fine known s → On (Went b (sets st) known s) (flow_of w types st s k)
       flow_fits (block ss) b known s k v h = flows_fit ss b known s k v h
       flow_fits (run e) b known s k v h = on_then (Ran (set_in e) known s) (Went b (set_in e) known s) _ _ (run_known e known s k v h) (λ y m j d. record { goes = tt; grew = d.grew; fine = d.fine; next = λ q. d.next })
-      flow_fits (if_else e ss ts) b known s k v h = on_then (Did known (type_of a e) s) (Went b [] known s) _ _ (value_fits known (ok known) e s k v.0.1 h) (λ y m j d.
+      flow_fits (if_else e ss ts) b known s k v h = on_then (Did known (type_of a e) s) (Went b [] known s) _ _ (value_fits known ok e s k v.0.1 h) (λ y m j d.
           on_weaker (Went b [] known m) (Went b [] known s) _ (λ flow z q. went_on b [] known s m z flow d.grew q) (on_if (Went b [] known m) (is_true y) _ _ m j (flows_fit ss b known m j v.1 d.fine) (flows_fit ts b known m j v.2 d.fine)))
       flow_fits (while_do e ss) b known s k v h =
-          let t : Turn known (tested (value_of w e) (flows_of w types ss)) = λ m j f. tested_went known e _ m j v.0 f (λ z i q. flows_fit ss true known z i v.1 q) in
-          turns_went b known k _ _ t t s k h
+          loop_went b known (runs.pure Next) (tested (value_of w e) (flows_of w types ss)) (λ m j f. plainly true known m Next f tt) (λ m j f. tested_went known e _ m j v.0 f (λ z i q. flows_fit ss true known z i v.1 q)) s k h
       flow_fits (do_while ss e) b known s k v h =
-          let u : Turn known (flows_of w types ss) = λ m j f. flows_fit ss true known m j v.0 f in
-          let t : Turn known (tested (value_of w e) (flows_of w types ss)) = λ m j f. tested_went known e _ m j v.1 f (λ z i q. flows_fit ss true known z i v.0 q) in
-          turns_went b known k _ _ u t s k h
+          loop_went b known (tested (value_of w e) (runs.pure Next)) (flows_of w types ss) (λ m j f. tested_went known e _ m j v.1 f (λ z i q. plainly true known z Next q tt)) (λ m j f. flows_fit ss true known m j v.0 f) s k h
       flow_fits (for_do e st ss) b known s k v h =
-          let t : Turn known (tested (value_of w e) (flows_of w types ss)) = λ m j f. tested_went known e _ m j v.0 f (λ z i q. flows_fit ss true known z i v.3 q) in
-          let u : Turn known (then_flow (flow_of w types st) (tested (value_of w e) (flows_of w types ss))) = λ m j f. seq_went true [] known (flow_of w types st) (tested (value_of w e) (flows_of w types ss)) m j (in_loop_went b known m _ (forget b (sets st) known m _ (flow_fits st b known m j v.2 f))) (λ z i q. t z i q) in
-          turns_went b known k _ _ t u s k h
+          loop_went b known (flow_of w types st) (tested (value_of w e) (flows_of w types ss)) (λ m j f. forget true (sets st) known m _ (flow_fits st true known m j v.2 f)) (λ m j f. tested_went known e _ m j v.0 f (λ z i q. flows_fit ss true known z i v.3 q)) s k h
       flow_fits break b known s k v h = plainly b known s Broke h v
       flow_fits continue b known s k v h = plainly b known s Continued h v
       flow_fits return_nothing b known s k v h = plainly b known s (Returned Nothing) h (subst (λ z. Fits g s.state.objects z Nothing) (sym v) tt)
-      flow_fits (return e) b known s k v h = on_then (Did known (type_of a e) s) (Went b [] known s) _ _ (value_fits known (ok known) e s k v.2 h) (λ y m j d.
-          went_on b [] known s m m (Returned y) d.grew (plainly b known m (Returned y) d.fine (suits_fits g m.state.objects (type_of a e) result y v.1 d.fits)))
+      flow_fits (return e) b known s k v h = on_then (Did known (type_of a e) s) (Went b [] known s) _ _ (value_fits known ok e s k v.1 h) (λ y m j d.
+          went_on b [] known s m m (Returned y) d.grew (plainly b known m (Returned y) d.fine (suits_fits g m.state.objects (type_of a e) result y v.0 d.fits)))
       flow_fits (make x) b known s k v h =
           let c = v.2.0 in let e : type_at types x ≡ ty.Ref c = v.2.1.0 in
-          on_then (Did known (ty.Ref (class_shown (type_at types x))) s) (Went b (x ∷ []) known s) (does (make_object g (class_shown (type_at types x))) s k) (λ y. runs.◌>>=◌ (put_local x y) (λ z. runs.pure Next)) (made_went (class_shown (type_at types x)) known s k h) (λ y m j d.
-          let z = known_too x y known m d.fine (subst (λ t. Fits g m.state.objects t y) (ap ty.Ref (ap class_shown e) ∙ sym e) d.fits) in
+          on_then (Did known (ty.Ref c) s) (Went b (x ∷ []) known s) (does (make_variable g (slice_get types x)) s k) (λ y. runs.◌>>=◌ (put_local x y) (λ z. runs.pure Next)) (variable_went x c known s k v.1 e h) (λ y m j d.
+          let z = known_too x y known m d.fine (subst (λ t. Fits g m.state.objects t y) (sym e) d.fits) in
           let r : Went b (x ∷ []) known s Next (record { locals = with_local m.locals x y; state = m.state }) = record { goes = tt; grew = d.grew; fine = fewer (x ∷ []) known _ z; next = λ q. z } in r)
 
       pub flows_fit : (ss : Stmts) (b : Bool) (known : List ℕ) (s : Store) (k : ℕ) → AreValidStmts a result b known ss → Fine known s → On (Went b [] known s) (flows_of w types ss s k)

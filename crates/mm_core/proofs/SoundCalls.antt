@@ -10,17 +10,18 @@ use Rattle.mm_classes.specs.declared.class.Ty.{Ty}
 use Rattle.mm_classes.specs.declared.class.Ty.TheVariants as ty
 use Rattle.mm_classes.specs.Lists.{Has, first, later}
 use Rattle.mm_classes.specs.Classes.{Class}
-use Rattle.mm_core.specs.Tree.{Stmt, Function, Program}
+use Rattle.mm_core.specs.Tree.{Stmt, block, Function, Program}
 use Rattle.mm_core.specs.Heads.{is_reference, same_type, is_main, has_params, argument_types, local_types, type_at}
 use Rattle.mm_core.specs.State.{Value, Nothing, Number, zero_of, Object, State, Store, start, Stop, trap}
 use Rattle.mm_core.specs.Virtual.{Calls}
 use Rattle.mm_core.specs.Meaning.{Flow, Next, Broke, Continued, Returned, flow_of, result_of, enter, setting_of}
 use Rattle.mm_core.specs.Valid.{IsValidStmt, sets}
-use Rattle.mm_core.specs.ValidProgram.{numbers_below, around}
+use Rattle.mm_core.specs.ValidProgram.{numbers_below, around, IsBody}
 use Rattle.mm_core.specs.Fits.{Fits, AllFit, Grew, IsState}
+use Rattle.mm_core.specs.Keeps.{On, Gave, Frame, inside, Known, ValuesFit}
 use Rattle.mm_core.proofs.Sets.{and_is}
-use Rattle.mm_core.proofs.Heap.{Gave, zero_fits, either_way}
-use Rattle.mm_core.proofs.Sound.{On, on_weaker, Known, Fine, Went, flow_fits}
+use Rattle.mm_core.proofs.Heap.{zero_fits, either_way}
+use Rattle.mm_core.proofs.Sound.{on_weaker, Fine, Went, flow_fits}
 
 pub below-Has : (n x : ℕ) → Has (numbers_below n) x → x < n
 below-Has zero x h = elim h [ ]
@@ -78,7 +79,10 @@ module _ (p : Program) (callable : Function → Bool) (calls : Calls) (f : Funct
   abbrev count : ℕ
   count = length (argument_types g f)
 
-  pub result_fits : (ok : (known : List ℕ) → Known p callable types count calls) (known : List ℕ) (s : Store) (x : Run Stop Store Flow) → On (Went p callable types count calls ok f.result false [] known s) x → On (Gave g f.result s.state) (result_of f x)
+  abbrev here : Frame
+  here = inside p callable calls f
+
+  pub result_fits : (ok : Known here) (known : List ℕ) (s : Store) (x : Run Stop Store Flow) → On (Went here ok f.result false [] known s) x → On (Gave g f.result s.state) (result_of f x)
   result_fits ok known s (Gives Next m k) h = ended (same_type f.result ty.Void) (is_main f) s.state m.state k refl refl h.grew h.fine.state
   result_fits ok known s (Gives Broke m k) h = let e = h.goes in cc
   result_fits ok known s (Gives Continued m k) h = let e = h.goes in cc
@@ -86,12 +90,20 @@ module _ (p : Program) (callable : Function → Bool) (calls : Calls) (f : Funct
   result_fits ok known s (Stops t m) h = tt
 
   -- a function that is entered on arguments of its types
-  pub function_fits : (ok : (known : List ℕ) → Known p callable types count calls) (body : Stmt) (vs : List Value) (s : State) (k : ℕ) → IsValidStmt (around callable p f) f.result false (numbers_below count) body → AllFit g s.objects (argument_types g f) vs → IsState g s → On (Gave g f.result s) (enter (setting_of p calls) f body vs s k)
+  pub function_fits : (ok : Known here) (body : Stmt) (vs : List Value) (s : State) (k : ℕ) → IsValidStmt (around callable p f) f.result false (numbers_below count) body → AllFit g s.objects (argument_types g f) vs → IsState g s → On (Gave g f.result s) (enter (setting_of p calls) f body vs s k)
   function_fits ok body vs s k v h i =
       let known = numbers_below count in
       let s0 : Store = record { locals = start vs f.locals; state = s } in
-      let fine : Fine p callable types count calls known s0 = record { state = i; locals = λ x l n. start_fits g s.objects (argument_types g f) vs f.locals x h l (λ r. below-Has count x (n r)) } in
-      result_fits ok known s0 (flow_of (setting_of p calls) types body s0 k) (drop_next known s0 (flow_of (setting_of p calls) types body s0 k) (flow_fits p callable types count calls ok f.result body false known s0 k v fine))
+      let fine : Fine here known s0 = record { state = i; locals = λ x l n. start_fits g s.objects (argument_types g f) vs f.locals x h l (λ r. below-Has count x (n r)) } in
+      result_fits ok known s0 (flow_of (setting_of p calls) types body s0 k) (drop_next known s0 (flow_of (setting_of p calls) types body s0 k) (flow_fits here ok f.result body false known s0 k v fine))
     where
-      drop_next : (known : List ℕ) (s0 : Store) (x : Run Stop Store Flow) → On (Went p callable types count calls ok f.result false (sets body) known s0) x → On (Went p callable types count calls ok f.result false [] known s0) x
-      drop_next known s0 x q = on_weaker (Went p callable types count calls ok f.result false (sets body) known s0) (Went p callable types count calls ok f.result false [] known s0) x (λ flow m d. record { goes = d.goes; grew = d.grew; fine = d.fine; next = λ e. d.fine }) q
+      drop_next : (known : List ℕ) (s0 : Store) (x : Run Stop Store Flow) → On (Went here ok f.result false (sets body) known s0) x → On (Went here ok f.result false [] known s0) x
+      drop_next known s0 x q = on_weaker (Went here ok f.result false (sets body) known s0) (Went here ok f.result false [] known s0) x (λ flow m d. record { goes = d.goes; grew = d.grew; fine = d.fine; next = λ e. d.fine }) q
+
+body_fits : (p : Program) (callable : Function → Bool) (calls : Calls) (f : Function) (body : Stmt) (vs : List Value) (s : State) (k : ℕ) → Known (inside p callable calls f) → IsBody (around callable p f) f.result body → AllFit p.classes s.objects (argument_types p.classes f) vs → IsState p.classes s → On (Gave p.classes f.result s) (enter (setting_of p calls) f body vs s k)
+body_fits p callable calls f (block ss) vs s k ok v h i = function_fits p callable calls f ok (block ss) vs s k v h i
+body_fits p callable calls f body vs s k ok v h i = absurd v
+
+-- the law
+pub values_fit_types : ValuesFit
+values_fit_types = record { by = body_fits }

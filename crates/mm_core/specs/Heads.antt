@@ -37,9 +37,13 @@ class_in ty.Unsigned = None
 class_in (ty.Ptr c) = Some c
 class_in (ty.Ref c) = Some c
 
+-- a number that no class has
+abbrev pub no_class : ℕ
+no_class = 4294967295
+
 -- the class, where there is one
 abbrev pub class_or : Option ℕ → ℕ
-class_or None = 0
+class_or None = no_class
 class_or (Some c) = c
 
 abbrev pub class_shown : Ty → ℕ

@@ -17,5 +17,7 @@ pub mod Run
 pub mod Valid
 pub mod ValidProgram
 pub mod Fits
+pub mod Keeps
+pub mod Renaming
 pub mod Settles
 pub mod Relations

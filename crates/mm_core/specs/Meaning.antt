@@ -9,13 +9,12 @@ use Rattle.mm_meaning.specs.Run.{Run, Gives, Stops, ◌>>=◌, pure, stop, step,
 use Rattle.mm_classes.specs.declared.class.Ty.{Ty}
 use Rattle.mm_classes.specs.declared.class.Ty.TheVariants as ty
 use Rattle.mm_classes.specs.Classes.{Class}
-use Rattle.mm_classes.specs.Questions.{node}
 use Rattle.mm_core.specs.Tree.{Expr, int, unsigned, bool, null, local, set_local, field, set_field, not_null, move, convert, binary, negation, both, either, choose, call, virtual_call, open_call, builtin, new, step_local, step_field, compound, Exprs, no_exprs, expr_and, Stmt, block, run, if_else, while_do, do_while, for_do, break, continue, return_nothing, return, make, Stmts, no_stmts, stmt_and, Function, Program}
-use Rattle.mm_core.specs.Heads.{class_shown, type_at, same_type, local_types, is_main}
+use Rattle.mm_core.specs.Heads.{same_type, local_types, is_main}
 use Rattle.mm_core.specs.State.{Value, Truth, Number, Word, Null, Nothing, State, with_local, start, Store, Stop, Spent, From, trap, or_trap, Operation, at_once, outside}
 use Rattle.mm_core.specs.Scalar.{is_true, int_value, converted, operate, changed, compounded}
-use Rattle.mm_core.specs.Objects.{make_object, get_field, put_field}
-use Rattle.mm_core.specs.Moves.{move_along, tested_pointer}
+use Rattle.mm_core.specs.Objects.{make_object, make_variable, get_field, put_field}
+use Rattle.mm_core.specs.Moves.{move_to, tested_pointer}
 use Rattle.mm_core.specs.Virtual.{Calls, call_virtual}
 use Rattle.mm_core.specs.Open.{call_open}
 
@@ -80,7 +79,7 @@ module _ (w : Setting) where
       or_trap (tested_pointer p)
     value_of (move c n e) = do
       p ← value_of e
-      does (move_along w.classes (node w.classes c n) p)
+      does (move_to w.classes c n p)
     value_of (convert t e) = do
       v ← value_of e
       pure (converted t v)
@@ -162,15 +161,27 @@ next_turn Continued again = again
 next_turn Broke again = pure Next
 next_turn (Returned v) again = pure (Returned v)
 
--- A loop of at most n turns, each of which is a step: the first turn, and the later ones. No run has more turns than steps.
-abbrev pub turns_from : ℕ → From Store Flow → From Store Flow → From Store Flow
-turns_from zero first later = stop Spent
-turns_from (suc n) first later = step Spent (do
-  flow ← first
-  next_turn flow (turns_from n later later))
+-- What stands before the body in a turn (the step of a `for`, the test of a `do`) goes on to it; a `continue` there
+-- ends the turn, and the next one begins without what stands before.
+abbrev pub begun : Flow → From Store Flow → From Store Flow → From Store Flow
+begun Next rest again = rest
+begun Continued rest again = again
+begun Broke rest again = pure Next
+begun (Returned v) rest again = pure (Returned v)
 
+-- A loop of at most n turns, each of which is a step: what the turn that is due begins with, what the later ones begin
+-- with, and the body. No run has more turns than steps.
+abbrev pub turns_from : ℕ → From Store Flow → From Store Flow → From Store Flow → From Store Flow
+turns_from zero now before body = stop Spent
+turns_from (suc n) now before body = step Spent (do
+  start ← now
+  begun start (do
+    flow ← body
+    next_turn flow (turns_from n before before body)) (turns_from n (pure Next) before body))
+
+-- in its first turn a loop begins with its body
 abbrev pub loop : From Store Flow → From Store Flow → From Store Flow
-loop first later = clocked (λ k. turns_from k first later)
+loop before body = clocked (λ k. turns_from k (pure Next) before body)
 
 -- a turn whose test fails leaves the loop
 abbrev pub tested : From Store Value → From Store Flow → From Store Flow
@@ -194,9 +205,9 @@ module _ (w : Setting) (types : List Ty) where
     flow_of (if_else e a b) = do
       v ← value_of w e
       if is_true v then flows_of a else flows_of b
-    flow_of (while_do e body) = loop (tested (value_of w e) (flows_of body)) (tested (value_of w e) (flows_of body))
-    flow_of (do_while body e) = loop (flows_of body) (tested (value_of w e) (flows_of body))
-    flow_of (for_do e after body) = loop (tested (value_of w e) (flows_of body)) (then_flow (flow_of after) (tested (value_of w e) (flows_of body)))
+    flow_of (while_do e body) = loop (pure Next) (tested (value_of w e) (flows_of body))
+    flow_of (do_while body e) = loop (tested (value_of w e) (pure Next)) (flows_of body)
+    flow_of (for_do e after body) = loop (flow_of after) (tested (value_of w e) (flows_of body))
     flow_of break = pure Broke
     flow_of continue = pure Continued
     flow_of return_nothing = pure (Returned Nothing)
@@ -204,7 +215,7 @@ module _ (w : Setting) (types : List Ty) where
       v ← value_of w e
       pure (Returned v)
     flow_of (make x) = do
-      p ← does (make_object w.classes (class_shown (type_at types x)))
+      p ← does (make_variable w.classes (slice_get types x))
       _ ← put_local x p
       pure Next
 

@@ -1,16 +1,16 @@
 -- How a run gets from one subobject of an object to another. Nothing else changes which subobject a pointer shows.
 -- (ISO/IEC 14882, 4.10/3, 10.3 and 12.6.2/8, in the words of Rossie and Friedman.)
-use Rattle.std.specs.Prelude.{ℕ, List, Option, Some, None, Result, Ok, Err}
+use Rattle.std.specs.Prelude.{ℕ, List, Option, Some, None, Result, Ok, Err, slice_get}
 use Rattle.mm_base.specs.declared.num.Trap.{Trap}
 use Rattle.mm_base.specs.declared.num.Trap.TheVariants as by
 use Rattle.mm_classes.specs.declared.class.Member.{Member}
 use Rattle.mm_classes.specs.declared.class.Ty.{Ty}
 use Rattle.mm_classes.specs.Classes.{Class}
-use Rattle.mm_classes.specs.Subobjects.{Path, compose}
+use Rattle.mm_classes.specs.Subobjects.{Path, compose, subobjects_of}
 use Rattle.mm_core.specs.Sets.{only, ups, arounds}
 use Rattle.mm_core.specs.Heads.{class_in}
 use Rattle.mm_core.specs.Finals.{final_of}
-use Rattle.mm_core.specs.State.{Value, Truth, Number, Word, Null, At, Nothing, State, class_of, Operation}
+use Rattle.mm_core.specs.State.{Value, Truth, Number, Word, Null, At, Nothing, State, class_of, on_some, Operation}
 
 -- The ways on from a subobject: to a base of it, along a path; to the final overrider of a function that it declares; and to
 -- the subobject of a class that contains it.
@@ -46,6 +46,10 @@ kept s (Err t) = Err t
 
 abbrev pub move_along : List Class → Path → Value → Operation
 move_along g q v s = kept s (moved_value g (to_base q) s v)
+
+-- to the n-th subobject of class c
+abbrev pub move_to : List Class → ℕ → ℕ → Value → Operation
+move_to g c n v s = on_some (slice_get (subobjects_of g c) n) (λ q. move_along g q v s)
 
 -- the pointer itself, where it is not null
 abbrev pub tested_pointer : Value → Result Value Trap

@@ -8,8 +8,8 @@ use Rattle.mm_classes.specs.Subobjects.{Path, compose}
 use Rattle.mm_core.specs.declared.part.CoreParam.{CoreParam}
 use Rattle.mm_core.specs.Tree.{Program}
 use Rattle.mm_core.specs.Sets.{ups}
-use Rattle.mm_core.specs.State.{Value, At, Object, State, class_of}
-use Rattle.mm_core.specs.Virtual.{Calls, on_some, reads, Entry, entered}
+use Rattle.mm_core.specs.State.{Value, At, Object, State, class_of, on_some}
+use Rattle.mm_core.specs.Virtual.{Calls, reads, Entry, entered}
 use Rattle.mm_core.specs.Families.{classes_of, Declared, opens_of, over, base_methods}
 use Rattle.mm_core.specs.Ordering.{declared_before, first_by}
 use Rattle.mm_core.specs.Dispatch.{Row, parameters_of, winner_of}

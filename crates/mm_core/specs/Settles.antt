@@ -1,6 +1,6 @@
 -- A run that came to its end stays as it is at higher bounds, and one that goes on has put a front of what is put later. (Own.)
 use Rattle.std.specs.Prelude.{◌≡◌, ◌⊎◌, ℕ, suc, ◌≤◌, ℤ, List}
-use Rattle.mm_meaning.specs.Same.{Same, IsFront}
+use Rattle.mm_meaning.specs.Same.{Leaves, Same, IsFront}
 use Rattle.mm_core.specs.Tree.{Program}
 use Rattle.mm_core.specs.State.{Value, State}
 use Rattle.mm_core.specs.Meaning.{call_of}
@@ -16,6 +16,10 @@ SettlesAt o o' = (o' ≡ o) ⊎ ((o.finish ≡ GoesOn) × IsFront o.put o'.put)
 
 pub record Settles : Type 0 where
   pub by : (p : Program) (input : List ℤ) (n : ℕ) → SettlesAt (source_run p input n) (source_run p input (suc n))
+
+-- What is left of the clock is no more than was given.
+pub record LeavesClock : Type 0 where
+  pub by : (p : Program) (n f : ℕ) (vs : List Value) (s : State) (k : ℕ) → Leaves k (call_of p n f vs s k)
 
 -- The depth of calls is no bound beside the clock: all depths that are no less than the clock give one run.
 pub record DeepEnough : Type 0 where

@@ -89,15 +89,15 @@ tests_equality Equal = true
 tests_equality NotEqual = true
 tests_equality other = false
 
-abbrev pub parameters_of : Builtin → List Ty
-parameters_of Put = ty.Int ∷ []
-parameters_of Get = []
-parameters_of More = []
+abbrev pub types_asked : Builtin → List Ty
+types_asked Put = ty.Int ∷ []
+types_asked Get = []
+types_asked More = []
 
-abbrev pub result_of : Builtin → Ty
-result_of Put = ty.Void
-result_of Get = ty.Int
-result_of More = ty.Int
+abbrev pub type_answered : Builtin → Ty
+type_answered Put = ty.Void
+type_answered Get = ty.Int
+type_answered More = ty.Int
 
 abbrev pub result_of_function : Option Function → Ty
 result_of_function None = ty.Void
@@ -129,7 +129,7 @@ module _ (a : Around) where
     type_of (call f es) = result_of_function (slice_get a.functions f)
     type_of (virtual_call m e es) = result_of_method (slice_get (members_of a.classes (class_shown (type_of e))) m)
     type_of (open_call f es) = result_of_function (slice_get a.functions f)
-    type_of (builtin b es) = result_of b
+    type_of (builtin b es) = type_answered b
     type_of (new c) = ty.Ptr c
     type_of (step_local x c) = type_at a.locals x
     type_of (step_field f c e) = field_type a.classes (class_shown (type_of e)) f
@@ -141,9 +141,9 @@ module _ (a : Around) where
 
 -- ---- what a node asks
 
--- a reference stands wherever a pointer is wanted
+-- a value is wanted, and a reference stands wherever a pointer is
 abbrev pub Suits : Ty → Ty → Type 0
-Suits t wanted = (t ≡ wanted) ⊎ (as_pointer t ≡ wanted)
+Suits t wanted = (wanted ≢ ty.Void) × ((t ≡ wanted) ⊎ (as_pointer t ≡ wanted))
 
 abbrev pub AllSuit : List Ty → List Ty → Type 0
 AllSuit [] [] = Unit {0}
@@ -214,7 +214,7 @@ module _ (a : Around) where
       IsValid (call f es) = IsCalled false f (types_of a es) × AreValid es
       IsValid (virtual_call m e es) = (c : ℕ) × (x : Member) × IsObject a.classes (type_of a e) c × IsVirtualMethod a.classes c m x × AllSuit (types_of a es) (params_in x.kind) × IsValid e × AreValid es
       IsValid (open_call f es) = IsCalled true f (types_of a es) × AreValid es
-      IsValid (builtin b es) = AllSuit (types_of a es) (parameters_of b) × AreValid es
+      IsValid (builtin b es) = AllSuit (types_of a es) (types_asked b) × AreValid es
       IsValid (new c) = IsComplete a.classes c
       IsValid (step_local x c) = (x < length a.locals) × IsTrue (is_number (type_at a.locals x))
       IsValid (step_field f c e) = HasField a.classes (type_of a e) f × IsTrue (is_number (type_of a (field f e))) × IsValid e
@@ -255,11 +255,11 @@ module _ (a : Around) (result : Ty) where
     IsValidStmt in_loop known (if_else e ss ts) = IsTest a known e × AreValidStmts in_loop known ss × AreValidStmts in_loop known ts
     IsValidStmt in_loop known (while_do e ss) = IsTest a known e × AreValidStmts true known ss
     IsValidStmt in_loop known (do_while ss e) = AreValidStmts true known ss × IsTest a known e
-    IsValidStmt in_loop known (for_do e s ss) = IsTest a known e × IsTrue (is_step s) × IsValidStmt in_loop known s × AreValidStmts true known ss
+    IsValidStmt in_loop known (for_do e s ss) = IsTest a known e × IsTrue (is_step s) × IsValidStmt true known s × AreValidStmts true known ss
     IsValidStmt in_loop known break = IsTrue in_loop
     IsValidStmt in_loop known continue = IsTrue in_loop
     IsValidStmt in_loop known return_nothing = result ≡ ty.Void
-    IsValidStmt in_loop known (return e) = (result ≢ ty.Void) × Suits (type_of a e) result × IsValid a known e
+    IsValidStmt in_loop known (return e) = Suits (type_of a e) result × IsValid a known e
     IsValidStmt in_loop known (make x) = (a.arguments ≤ x) × (x < length a.locals) × ((c : ℕ) × IsObject a.classes (type_at a.locals x) c)
 
     -- what a statement sets is known in those behind it, and in what stands in them

@@ -10,17 +10,12 @@ use Rattle.mm_classes.specs.Classes.{class_at, members_of}
 use Rattle.mm_classes.specs.Subobjects.{end_of}
 use Rattle.mm_core.specs.Tree.{Function, Program}
 use Rattle.mm_core.specs.Heads.{result_in, same_function, function_of}
-use Rattle.mm_core.specs.State.{Value, At, State, class_of, From, or_trap, at_once}
+use Rattle.mm_core.specs.State.{Value, At, State, class_of, From, or_trap, on_some, at_once}
 use Rattle.mm_core.specs.Moves.{to_final, moved, result_back}
 
 -- A call of a function, by its number, on the values of its arguments, `this` first where it is a member.
 abbrev pub Calls : Type 0
 Calls = ℕ → List Value → From State Value
-
--- what goes on with what there is; in a valid program it is there
-abbrev pub on_some : {A B : Type 0} → Option A → (A → Result B Trap) → Result B Trap
-on_some None f = Err by.NoResult
-on_some (Some a) f = f a
 
 -- what follows from the state as it is
 abbrev pub reads : {A : Type 0} → (State → Result A Trap) → From State A

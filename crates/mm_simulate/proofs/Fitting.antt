@@ -27,7 +27,7 @@ use Rattle.mm_c.specs.WellFormed.{Here, callable, kind_number, entry_in, kind_in
 use Rattle.mm_c.specs.WellFormed as rules
 use Rattle.mm_core.specs.Tree.{Expr, int, unsigned, bool, local, set_local, field, convert, binary, negation, both, either, choose, call, builtin, step_local, Exprs, no_exprs, expr_and, Function}
 use Rattle.mm_core.specs.Heads.{type_at, is_open, argument_types, class_shown}
-use Rattle.mm_core.specs.Valid.{Around, type_of, types_of, compares, is_number, is_pointer, result_of, result_of_function, parameters_of, AllSuit, AreOperands, IsValid, AreValid}
+use Rattle.mm_core.specs.Valid.{Around, type_of, types_of, compares, is_number, is_pointer, result_of, result_of_function, parameters_of, AllSuit, AreOperands, IsValid, AreValid, HasField, IsFieldOf}
 use Rattle.mm_agree.specs.Agree.{Layout, kind_of, cell_of}
 use Rattle.mm_simulate.proofs.Stores.{is_void}
 use Rattle.mm_simulate.proofs.Nodes.{suits_same}
@@ -104,7 +104,7 @@ module _ (h : Here) where
       fit_int by.Equal z is = fit_set h z kind.Int _ is (ints_fit h (Name x) (Name y) o.Equal fx fy)
       fit_int by.NotEqual z is = fit_set h z kind.Int _ is (ints_fit h (Name x) (Name y) o.NotEqual fx fy)
 
-reach_some : (e : Expr) → 0 < reach e
+pub reach_some : (e : Expr) → 0 < reach e
 reach_some (set_local x e) = reach_some e
 reach_some (field f e) = reach_some e
 reach_some (convert x e) = reach_some e
@@ -151,7 +151,7 @@ module _ (h : Here) (a : Around) (l : Layout) (name : ℕ → List ℕ) (n : ℕ
     pub more : entry_in h.table (codes "mm_more") ≡ Some (callable false true (Some kind.Int) [])
     pub trap : entry_in h.table (codes "mm_trap") ≡ Some (callable false true None (kind.Int ∷ []))
     pub functions : (i : ℕ) (f : Function) → slice_get a.functions i ≡ Some f → is_open f ≡ false → IsTrue (a.callable f) → (d : Bool) × (entry_in h.table (name i) ≡ Some (callable false d (kind_of_result f.result) (map kind_of (argument_types a.classes f))))
-    pub members : (d f : ℕ) → l.member d f < 2 ^ 31
+    pub members : (d f : ℕ) → IsFieldOf a.classes d f → l.member d f < 2 ^ 31
 
   module _ (ok : Declares) where
     of_at : (type : Ty) (t : ℕ) → t < n → kind_in h.scope (of_ type t) ≡ Some (kind_of type)
@@ -162,7 +162,7 @@ module _ (h : Here) (a : Around) (l : Layout) (name : ℕ → List ℕ) (n : ℕ
     of_at (ty.Ptr d) t low = ok.pointers t low
     of_at (ty.Ref d) t low = ok.pointers t low
 
-    of_fits : (type : Ty) (t : ℕ) → t < n → fits h (kind_of type) (Name (of_ type t)) ≡ true
+    pub of_fits : (type : Ty) (t : ℕ) → t < n → fits h (kind_of type) (Name (of_ type t)) ≡ true
     of_fits type t low = name_fits h (kind_of type) (of_ type t) (of_at type t low)
 
     int_low : (z : ℤ) → IsTrue (is_int z) → fits h kind.Int (int_atom z) ≡ true
@@ -314,8 +314,11 @@ module _ (h : Here) (a : Around) (l : Layout) (name : ℕ → List ℕ) (n : ℕ
     asked Get = (true, ok.get)
     asked More = (true, ok.more)
 
-    fit_load : (type : Ty) (t d f : ℕ) → t < n → Fit h (set (of_ type t) (Load (cell_of type) (record { pointer = p_ t; offset = record { value = l.member d f; is_unsigned = false } })))
-    fit_load type t d f low = fit_set h (of_ type t) (kind_of type) _ (of_at type t low) (both_true (rules.result_number (rules.kind_of_cell (cell_of type)) == kind_number (kind_of type)) (rules.address_fits h (record { pointer = p_ t; offset = record { value = l.member d f; is_unsigned = false } })) (rw (cell_kind type) (kind_same (kind_of type))) (let m : nat_lt (l.member d f) (2 ^ 31) ≡ true = (let z = ok.members d f in grind arith) in rw (name_fits h kind.Pointer (p_ t) (ok.pointers t low), m) refl))
+    fit_load : (type : Ty) (t d f : ℕ) → t < n → IsFieldOf a.classes d f → Fit h (set (of_ type t) (Load (cell_of type) (record { pointer = p_ t; offset = record { value = l.member d f; is_unsigned = false } })))
+    fit_load type t d f low is = fit_set h (of_ type t) (kind_of type) _ (of_at type t low) (both_true (rules.result_number (rules.kind_of_cell (cell_of type)) == kind_number (kind_of type)) (rules.address_fits h (record { pointer = p_ t; offset = record { value = l.member d f; is_unsigned = false } })) (rw (cell_kind type) (kind_same (kind_of type))) (let m : nat_lt (l.member d f) (2 ^ 31) ≡ true = (let z = ok.members d f is in grind arith) in rw (name_fits h kind.Pointer (p_ t) (ok.pointers t low), m) refl))
+
+    field_of : (type : Ty) (f : ℕ) → HasField a.classes type f → IsFieldOf a.classes (class_shown type) f
+    field_of type f h = subst (λ z. IsFieldOf a.classes (class_shown z) f) (sym h.1.0) h.2
 
     there : (f : ℕ) (x : Function) → slice_get a.functions f ≡ Some x → is_open x ≡ false → IsTrue (a.callable x) → Entered (name f) x.result (argument_types a.classes x)
     unfolding Entered
@@ -330,7 +333,7 @@ module _ (h : Here) (a : Around) (l : Layout) (name : ℕ → List ℕ) (n : ℕ
         expr_fits (bool false) t low valid le = fit_set h (i_ t) kind.Int _ (ok.ints t (omega arith)) refl
         expr_fits (local x) t low valid le = fit_set h (of_ (type_at a.locals x) t) (kind_of (type_at a.locals x)) _ (of_at (type_at a.locals x) t (omega arith)) (name_fits h (kind_of (type_at a.locals x)) (v_ x) (ok.locals x valid.0))
         expr_fits (set_local x e) t low valid le = fit_then h (lowered a l name t e) _ (expr_fits e t low valid.2 le) (fit_set h (v_ x) (kind_of (type_at a.locals x)) _ (ok.locals x valid.0) (subst (λ k. fits h k (Name (of_ (type_of a e) t)) ≡ true) (suits_same (type_of a e) (type_at a.locals x) valid.1).kinds (of_fits (type_of a e) t (omega (arith, reach_some e)))))
-        expr_fits (field f e) t low valid le = fit_then h (lowered a l name t e) _ (expr_fits e t low valid.1 le) (fit_load (type_of a (field f e)) t (class_shown (type_of a e)) f (omega (arith, reach_some e)))
+        expr_fits (field f e) t low valid le = fit_then h (lowered a l name t e) _ (expr_fits e t low valid.1 le) (fit_load (type_of a (field f e)) t (class_shown (type_of a e)) f (omega (arith, reach_some e)) (field_of (type_of a e) f valid.0))
         expr_fits (convert x e) t low valid le = fit_then h (lowered a l name t e) _ (expr_fits e t low valid.1 le) (fit_conversion x (type_of a e) t (omega (arith, reach_some e)))
         expr_fits (binary op d e) t low valid le = fit_then h (lowered a l name t d) _ (expr_fits d t low.1 valid.1 (omega arith)) (fit_then h (lowered a l name (suc t) e) _ (expr_fits e (suc t) low.2 valid.2 (omega arith)) (fit_operator op (type_of a d) t (omega arith) (numbers_are op (type_of a d) (type_of a e) low.0 valid.0).0))
         expr_fits (negation e) t low valid le = fit_then h (lowered a l name t e) _ (expr_fits e t low valid.1 le) (fit_int_test t (omega (arith, reach_some e)) o.Equal)

@@ -11,3 +11,4 @@ pub mod Programs
 pub mod Scalar
 pub mod Below
 pub mod Fitting
+pub mod FittingStmts

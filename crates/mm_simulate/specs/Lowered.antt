@@ -294,6 +294,56 @@ abbrev mutual
   reach_all no_exprs = 0
   reach_all (expr_and e es) = max (reach e) (suc (reach_all es))
 
+abbrev mutual
+  pub reach_stmt : Stmt → ℕ
+  reach_stmt (block ss) = reach_stmts ss
+  reach_stmt (run e) = reach e
+  reach_stmt (if_else e ss ts) = max (reach e) (max (reach_stmts ss) (reach_stmts ts))
+  reach_stmt (while_do e ss) = max (reach e) (reach_stmts ss)
+  reach_stmt (do_while ss e) = suc (max (reach_stmts ss) (reach e))
+  reach_stmt (for_do e s ss) = suc (max (reach e) (max (reach_stmt s) (reach_stmts ss)))
+  reach_stmt (return e) = reach e
+  reach_stmt other = 0
+
+  pub reach_stmts : Stmts → ℕ
+  reach_stmts no_stmts = 0
+  reach_stmts (stmt_and s ss) = max (reach_stmt s) (reach_stmts ss)
+
+-- ---- how many blocks stand in one another in the code of a tree, but for those of one operator
+
+abbrev mutual
+  pub nesting : Expr → ℕ
+  nesting (set_local x e) = nesting e
+  nesting (field f e) = nesting e
+  nesting (convert x e) = nesting e
+  nesting (binary op d e) = max (nesting d) (nesting e)
+  nesting (negation e) = nesting e
+  nesting (both d e) = max (nesting d) (suc (nesting e))
+  nesting (either d e) = max (nesting d) (suc (nesting e))
+  nesting (choose e d f) = max (nesting e) (suc (max (nesting d) (nesting f)))
+  nesting (call f es) = nesting_all es
+  nesting (builtin b es) = nesting_all es
+  nesting other = 0
+
+  pub nesting_all : Exprs → ℕ
+  nesting_all no_exprs = 0
+  nesting_all (expr_and e es) = max (nesting e) (nesting_all es)
+
+abbrev mutual
+  pub nesting_stmt : Stmt → ℕ
+  nesting_stmt (block ss) = nesting_stmts ss
+  nesting_stmt (run e) = nesting e
+  nesting_stmt (if_else e ss ts) = max (nesting e) (suc (max (nesting_stmts ss) (nesting_stmts ts)))
+  nesting_stmt (while_do e ss) = suc (max (nesting e) (nesting_stmts ss))
+  nesting_stmt (do_while ss e) = suc (max (suc (nesting e)) (nesting_stmts ss))
+  nesting_stmt (for_do e s ss) = suc (max (suc (nesting_stmt s)) (max (nesting e) (nesting_stmts ss)))
+  nesting_stmt (return e) = nesting e
+  nesting_stmt other = 0
+
+  pub nesting_stmts : Stmts → ℕ
+  nesting_stmts no_stmts = 0
+  nesting_stmts (stmt_and s ss) = max (nesting_stmt s) (nesting_stmts ss)
+
 -- ---- functions
 
 abbrev pub kind_of_result : Ty → Option CKind
