@@ -4,7 +4,7 @@ use Rattle.std.specs.Prelude.{Bool, true, false, if◌then◌else◌}
 use Rattle.std.specs.Char.{is_ascii_alphanumeric}
 use Rattle.std.specs.List.{filter}
 use Rattle.std.proofs.Math.Seq.{drop-cons}
-use Rattle.std.proofs.lemmas.List.{append-nil}
+use Rattle.std.proofs.lemmas.List.{append-nil, drop_all}
 use Rattle.std.proofs.lemmas.Str.{encode_ascii}
 use Rattle.mm_c.specs.Tokens.{is_word_byte}
 
@@ -22,4 +22,4 @@ module _ (p : ℕ → Bool) (text source : List ℕ) (i b : ℕ) (low : i < leng
   goes e = ap (λ l. text ++ l) (sym (ap (filter p) split ∙ keeps false e))
 
 pub all_kept : (p : ℕ → Bool) (text source : List ℕ) (i : ℕ) → length source ≤ i → text ++ filter p (drop i source) ≡ text
-all_kept p text source i h = ?
+all_kept p text source i h = ap (λ l. text ++ filter p l) (drop_all i source h) ∙ append-nil text

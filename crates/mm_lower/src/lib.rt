@@ -2,7 +2,9 @@
 #![tactic(auto, using(mm_c::proofs::Views::code_rules))]
 
 mod callee;
+pub mod expr;
 pub mod name;
+pub mod node;
 pub mod operator;
 pub mod scope;
 pub mod types;

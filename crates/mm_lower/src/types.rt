@@ -6,9 +6,10 @@ ghost use Rattle.mm_core.specs.Heads as heads;
 ghost use Rattle.mm_core.specs.Valid as valid;
 ghost use Rattle.mm_agree.specs.Agree as agree;
 
+use mm_base::world::Builtin;
 use mm_c::tree::CKind;
 use mm_classes::class::Ty;
-use mm_core::part::Operator;
+use mm_core::part::{Operator, Target};
 
 /// The kind of the names that hold a type's values.
 pub fn kind_of(ty: Ty) -> CKind
@@ -87,4 +88,25 @@ pub fn operator_type(operator: Operator, operand: Ty) -> Ty
     ensures { result ≡ if valid.compares operator then ty.Bool else operand }
 {
     if compares(operator) { Ty::Bool } else { operand }
+}
+
+/// The type that a conversion gives.
+pub fn type_of_target(target: Target) -> Ty
+    ensures { result ≡ valid.type_of_target target }
+{
+    match target {
+        Target::Bool => Ty::Bool,
+        Target::Int => Ty::Int,
+        Target::Unsigned => Ty::Unsigned,
+    }
+}
+
+/// The type of what a built-in function gives.
+pub fn type_of_builtin(builtin: Builtin) -> Ty
+    ensures { result ≡ valid.type_answered builtin }
+{
+    match builtin {
+        Builtin::Put => Ty::Void,
+        Builtin::Get | Builtin::More => Ty::Int,
+    }
 }
