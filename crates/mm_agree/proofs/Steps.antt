@@ -5,7 +5,7 @@ use Rattle.mm_meaning.specs.Run as runs
 use Rattle.mm_meaning.specs.Run.{Run, Gives, Stops, From, then}
 use Rattle.mm_core.specs.State as source
 use Rattle.mm_core.specs.State.{Store}
-use Rattle.mm_core.proofs.Sound.{On}
+use Rattle.mm_core.specs.Keeps.{On}
 use Rattle.mm_c.specs.declared.value.CValue.{CValue}
 use Rattle.mm_c.specs.declared.value.CValue.TheVariants as holds
 use Rattle.mm_c.specs.declared.tree.CAtom.{CAtom}
@@ -154,6 +154,14 @@ module _ (around : Around) where
 
   pub if_ran : (y : List ℕ) (b : Bool) (p q : Code) (u : c.Store) (k : ℕ) {u' : c.Store} → u.names y ≡ holds.Int (c.bit_of b) → Ran around (either_code b p q) u k u' → Ran around (just (tree.if_else (Name y) (block_of p) (block_of q))) u k u'
   if_ran y b p q u k e h = record { by = ap (λ v. then (c.if_zero v (flow_in around (block_of q)) (flow_in around (block_of p)) u k) (λ flow. unless_left flow (flows_of around done))) e ∙ ap (λ r. then r (λ flow. unless_left flow (flows_of around done))) (block_ran b p q u k h) }
+
+  -- what stands behind a choice, as it goes on
+  only_at : (b : Bool) (p : Code) (ys : Code) (u : c.Store) (k : ℕ) → then (c.if_zero (holds.Int (c.bit_of b)) (runs.pure Next) (flow_in around (block_of p)) u k) (λ flow. unless_left flow (flows_of around ys)) ≡ flows_of around (either_code b p done ⨾ ys) u k
+  only_at true p ys u k = sym (flows-⨾ around p ys u k)
+  only_at false p ys u k = refl
+
+  pub only_is : (u : c.Store) (k : ℕ) (y : List ℕ) (b : Bool) (p ys : Code) → u.names y ≡ holds.Int (c.bit_of b) → flows_of around (do_then (tree.if_only (Name y) (block_of p)) ys) u k ≡ flows_of around (either_code b p done ⨾ ys) u k
+  only_is u k y b p ys e = ap (λ v. then (c.if_zero v (runs.pure Next) (flow_in around (block_of p)) u k) (λ flow. unless_left flow (flows_of around ys))) e ∙ only_at b p ys u k
 
   only_block : (b : Bool) (p : Code) (u : c.Store) (k : ℕ) {u' : c.Store} → Ran around (either_code b p done) u k u' → c.if_zero (holds.Int (c.bit_of b)) (runs.pure Next) (flow_in around (block_of p)) u k ≡ Gives Next u' k
   only_block true p u k h = h.by

@@ -2,9 +2,8 @@
 use Rattle.std.proofs.Common.{◌≡◌, ℕ, zero, suc, ◌<◌, ◌≤◌, List, length, refl, sym, ap, subst, ◌∙◌, arith}
 use Rattle.std.specs.Prelude.{Bool, true, false, IsTrue, Some, slice_get, if◌then◌else◌, nat_lt}
 use Rattle.mm_meaning.specs.Run.{Stops}
-use Rattle.mm_classes.specs.declared.class.Ty.{Ty}
 use Rattle.mm_core.specs.Tree.{Stmt, Function, Program}
-use Rattle.mm_core.specs.Heads.{is_open, argument_types, local_types, type_at}
+use Rattle.mm_core.specs.Heads.{is_open, argument_types}
 use Rattle.mm_core.specs.State as source
 use Rattle.mm_core.specs.State.{Value, State}
 use Rattle.mm_core.specs.Virtual.{Calls}
@@ -15,7 +14,7 @@ use Rattle.mm_core.specs.ValidProgram.{around, numbers_below}
 use Rattle.mm_core.specs.Fits.{AllFit, IsState}
 use Rattle.mm_core.proofs.Congruent.{enter_law}
 use Rattle.mm_core.proofs.Deep as deep_source
-use Rattle.mm_core.proofs.Sound.{Known}
+use Rattle.mm_core.specs.Keeps.{Known, inside}
 use Rattle.mm_c.specs.declared.value.CValue.{CValue}
 use Rattle.mm_c.specs.declared.tree.CKind.{CKind}
 use Rattle.mm_c.specs.Tree as tree
@@ -24,8 +23,6 @@ use Rattle.mm_c.proofs.Deep as deep_c
 use Rattle.mm_agree.specs.Agree.{Layout, both_stop, all_in_c, States, Alike, CallsAgree, HasPrelude}
 use Rattle.mm_simulate.specs.Lowered.{lowered_fn, IsLoweredStmt}
 use Rattle.mm_simulate.specs.Simulates.{source_now, Named, KeepsAt}
-use Rattle.mm_simulate.proofs.Stores.{is_void}
-use Rattle.mm_simulate.proofs.Nodes.{AllSolid}
 use Rattle.mm_simulate.proofs.Functions.{function_agrees}
 
 module _ (p : Program) (l : Layout) (callable : Function → Bool) (name : ℕ → List ℕ) (q : tree.Program) (named : Named p callable name q) (n : ℕ) where
@@ -71,19 +68,19 @@ module _ (q : tree.Program) (k : ℕ) where
       at u j le true e = (deep_c.now_itself q k F vs).by u j le
       at u j le false e = absurd (let z : ⊥ = grind arith in z)
 
-module _ (p : Program) (l : Layout) (callable : Function → Bool) (name : ℕ → List ℕ) (q : tree.Program) (named : Named p callable name q) (i : ℕ) (f : Function) (body : Stmt) (at : slice_get p.functions i ≡ Some f) (has_body : f.body ≡ Some body) (low : IsLoweredStmt (around callable p f) body) (valid : IsValidStmt (around callable p f) f.result false (numbers_below (length (argument_types p.classes f))) body) (solid : (x : ℕ) → x < length (local_types p.classes f) → is_void (type_at (local_types p.classes f) x) ≡ false) (solid_calls : (n : ℕ) (f : Function) → slice_get p.functions n ≡ Some f → AllSolid (argument_types p.classes f)) (public : Bool) (ds : List (CKind × ℕ)) where
+module _ (p : Program) (l : Layout) (callable : Function → Bool) (name : ℕ → List ℕ) (q : tree.Program) (named : Named p callable name q) (i : ℕ) (f : Function) (body : Stmt) (at : slice_get p.functions i ≡ Some f) (has_body : f.body ≡ Some body) (low : IsLoweredStmt (around callable p f) body) (valid : IsValidStmt (around callable p f) f.result false (numbers_below (length (argument_types p.classes f))) body) (public : Bool) (ds : List (CKind × ℕ)) where
   abbrev F : tree.Function
   F = lowered_fn (around callable p f) l name i public f body ds
 
   -- the simulation of one function, by the clock
-  pub keeps : (n : ℕ) → ((types : List Ty) (arguments : ℕ) → Known p callable types arguments (calls_below p l callable name q named n)) → ((k j : ℕ) (h : Function) → k < n → slice_get p.functions j ≡ Some h → is_open h ≡ false → IsTrue (callable h) → KeepsAt p l q k j h (named.function j)) → KeepsAt p l q n i f F
+  pub keeps : (n : ℕ) → Known (inside p callable (calls_below p l callable name q named n) f) → ((k j : ℕ) (h : Function) → k < n → slice_get p.functions j ≡ Some h → is_open h ≡ false → IsTrue (callable h) → KeepsAt p l q k j h (named.function j)) → KeepsAt p l q n i f F
   keeps zero known below = record { by = λ vs s u fits is states. both_stop states.world }
   keeps (suc k) known below = record {
     by = λ vs s u fits is states.
         let calls = calls_below p l callable name q named (suc k) in
         let around' = around_below p l callable name q named (suc k) in
         let agree = calls_below_agree p l callable name q named (suc k) below in
-        let alike = function_agrees p callable l name calls around' (has_prelude p l callable name q named (suc k)) f (known (local_types p.classes f) (length (argument_types p.classes f))) agree solid solid_calls i public body ds low valid vs s u k fits is states in
+        let alike = function_agrees p callable l name calls around' (has_prelude p l callable name q named (suc k)) f known agree i public body ds low valid vs s u k fits is states in
         let left = (enter_law (λ A x y. Same k x y) (λ A x y. Same k x y) (deep_source.deep k) p calls (call_of p k) (λ h ws. source_cut p k h ws) (slice_get p.functions i) vs).by s k (omega arith) in
         let first : enter_if (setting_of p calls) (slice_get p.functions i) vs s k ≡ enter (setting_of p calls) f body vs s k = rw (at, has_body) refl in
         let right = (deep_c.enter_same k around' (c.around_all q (c.now q)) F (all_in_c l s.objects vs) (deep_c.all_around q k (steps_below p l callable name q named (suc k)) (c.now q) (λ G ws. c_cut q k G ws))).by u k (omega arith) in

@@ -27,7 +27,7 @@ use Rattle.mm_c.specs.WellFormed.{Here, callable, kind_number, entry_in, kind_in
 use Rattle.mm_c.specs.WellFormed as rules
 use Rattle.mm_core.specs.Tree.{Expr, int, unsigned, bool, local, set_local, field, convert, binary, negation, both, either, choose, call, builtin, step_local, Exprs, no_exprs, expr_and, Function}
 use Rattle.mm_core.specs.Heads.{type_at, is_open, argument_types, class_shown}
-use Rattle.mm_core.specs.Valid.{Around, type_of, types_of, compares, is_number, is_pointer, result_of, result_of_function, parameters_of, AllSuit, AreOperands, IsValid, AreValid, HasField, IsFieldOf}
+use Rattle.mm_core.specs.Valid.{Around, type_of, types_of, compares, is_number, is_pointer, type_answered, result_of_function, types_asked, AllSuit, AreOperands, IsValid, AreValid, HasField, IsFieldOf}
 use Rattle.mm_agree.specs.Agree.{Layout, kind_of, cell_of}
 use Rattle.mm_simulate.proofs.Stores.{is_void}
 use Rattle.mm_simulate.proofs.Nodes.{suits_same}
@@ -308,7 +308,7 @@ module _ (h : Here) (a : Around) (l : Layout) (name : ℕ → List ℕ) (n : ℕ
     fit_called f (ty.Ptr d) us ts es t there types suit low below = fit_assign f (ty.Ptr d) us ts es t there types suit low below refl
     fit_called f (ty.Ref d) us ts es t there types suit low below = fit_assign f (ty.Ref d) us ts es t there types suit low below refl
 
-    asked : (b : Builtin) → Entered (builtin_name b) (result_of b) (parameters_of b)
+    asked : (b : Builtin) → Entered (builtin_name b) (type_answered b) (types_asked b)
     unfolding Entered
     asked Put = (true, ok.put)
     asked Get = (true, ok.get)
@@ -345,7 +345,7 @@ module _ (h : Here) (a : Around) (l : Layout) (name : ℕ → List ℕ) (n : ℕ
             fit_then h (lowered_all a l name t es) _ (exprs_fit es t low valid.1 (omega arith))
             (subst (λ z. Fit h (called_for t z (Named (name f) (atoms_from a l name t es)))) (sym (ap result_of_function v.1))
             (fit_called (name f) v.0.result (argument_types a.classes v.0) (types_of a es) es t (there f v.0 v.1 v.2 v.3) refl v.4 (omega arith) (omega arith)))
-        expr_fits (builtin b es) t low valid le = fit_then h (lowered_all a l name t es) _ (exprs_fit es t low valid.1 (omega arith)) (fit_called (builtin_name b) (result_of b) (parameters_of b) (types_of a es) es t (asked b) refl valid.0 (omega arith) (omega arith))
+        expr_fits (builtin b es) t low valid le = fit_then h (lowered_all a l name t es) _ (exprs_fit es t low valid.1 (omega arith)) (fit_called (builtin_name b) (type_answered b) (types_asked b) (types_of a es) es t (asked b) refl valid.0 (omega arith) (omega arith))
         expr_fits (step_local x change) t low valid le = fit_step (type_at a.locals x) t x change (omega arith) valid.1 (ok.locals x valid.0)
         expr_fits other t low valid le = absurd low
 

@@ -1,20 +1,19 @@
 -- The code of every statement keeps C's rules, wherever its names are declared.
-use Rattle.std.proofs.Common.{◌≡◌, ◌≢◌, ℕ, suc, ◌+◌, ◌<◌, ◌≤◌, List, [], ◌∷◌, ◌++◌, Some, None, refl, sym, ap, ◌∙◌, subst, arith}
-use Rattle.std.specs.Prelude.{Bool, true, false, IsTrue, Option, pos}
+use Rattle.std.proofs.Common.{◌≡◌, ◌≢◌, ℕ, suc, ◌+◌, ◌<◌, ◌≤◌, List, ◌++◌, Some, None, refl, ap, ◌∙◌, subst, arith}
+use Rattle.std.specs.Prelude.{Bool, true, false, IsTrue}
 use Rattle.mm_classes.specs.declared.class.Ty.{Ty}
 use Rattle.mm_classes.specs.declared.class.Ty.TheVariants as ty
-use Rattle.mm_c.specs.declared.tree.CKind.{CKind}
 use Rattle.mm_c.specs.declared.tree.CKind.TheVariants as kind
 use Rattle.mm_c.specs.declared.tree.CAtom.TheVariants.{Name}
 use Rattle.mm_c.specs.declared.tree.CExpr.TheVariants.{Atom}
 use Rattle.mm_c.specs.Tree as c
 use Rattle.mm_c.specs.Tree.{Code, done, ◌⨾◌, just}
-use Rattle.mm_c.specs.WellFormed.{Here, kind_in, fits}
-use Rattle.mm_c.proofs.Fits.{Fit, fit_done, fit_then, fit_block, name_fits, fit_set, fit_forever, fit_return}
+use Rattle.mm_c.specs.WellFormed.{Here, fits}
+use Rattle.mm_c.proofs.Fits.{Fit, fit_done, fit_then, fit_block, fit_set, fit_forever, fit_return}
 use Rattle.mm_core.specs.Tree.{Stmt, block, run, if_else, while_do, do_while, for_do, break, continue, return_nothing, return, Stmts, no_stmts, stmt_and}
-use Rattle.mm_core.specs.Valid.{Around, type_of, Suits, sets, IsValidStmt, AreValidStmts}
+use Rattle.mm_core.specs.Valid.{Around, type_of, sets, IsValidStmt, AreValidStmts}
 use Rattle.mm_agree.specs.Agree.{Layout, kind_of}
-use Rattle.mm_simulate.specs.Lowered.{plain, block_of, i_, of_, set, only_if, if_or, break_unless, flagged, kind_of_result, lowered, lowered_stmt, lowered_stmts, reach, reach_stmt, reach_stmts, IsLoweredStmt, AreLoweredStmts}
+use Rattle.mm_simulate.specs.Lowered.{plain, i_, of_, set, only_if, break_unless, flagged, kind_of_result, lowered, lowered_stmt, lowered_stmts, reach_stmt, reach_stmts, IsLoweredStmt, AreLoweredStmts, step_in}
 use Rattle.mm_simulate.proofs.Nodes.{suits_same}
 use Rattle.mm_simulate.proofs.Fitting.{Declares, if_fits, only_fits, of_fits, expr_fits, reach_some}
 
@@ -50,11 +49,15 @@ module _ (a : Around) (l : Layout) (name : ℕ → List ℕ) (n : ℕ) (result :
     fit_flag : (b : Bool) → Stands h b → (t i : ℕ) → t < n → Fit h (set (i_ t) (Atom (plain 1)))
     fit_flag b s t i low = fit_set h (i_ t) kind.Int (Atom (plain 1)) (s.declares.ints t low) refl
 
-  fit_flagged : (h : Here) (b : Bool) → Stands h b → (t : ℕ) (later body : Code) → t < n → Fit (record h { in_loop = true }) later → Fit (record h { in_loop = true }) body → Fit h (flagged a l name t later body)
+  fit_flagged : (h : Here) (b : Bool) → Stands h b → (t : ℕ) (later body : Code) → t < n → Fit (record h { in_loop = true }) later → Fit (record h { in_loop = true }) body → Fit h (flagged t later body)
   fit_flagged h b s t later body low f k =
       let inner = record h { in_loop = true } in
       fit_then h (set (i_ t) (Atom (plain 0))) _ (fit_set h (i_ t) kind.Int (Atom (plain 0)) (s.declares.ints t low) refl)
       (fit_forever h _ s.plain (fit_block inner _ (fit_then inner (only_if (i_ t) later) _ (only_fits inner (i_ t) later (s.declares.ints t low) f) (fit_then inner (set (i_ t) (Atom (plain 1))) body (fit_flag inner true (in_loop h b s) t 0 low) k))))
+
+  fit_step : (h : Here) (b : Bool) → Stands h b → (t : ℕ) → t < n → (s : Stmt) (xs : Code) → Fit h xs → Fit h (step_in t s xs)
+  fit_step h b st t low (run e) xs f = f
+  fit_step h b st t low s xs f = fit_then h (set (i_ t) (Atom (plain 0))) xs (fit_set h (i_ t) kind.Int (Atom (plain 0)) (st.declares.ints t low) refl) f
 
   some_result : (t : Ty) → t ≢ ty.Void → kind_of_result t ≡ Some (kind_of t)
   some_result ty.Void e = absurd (e refl)
@@ -86,16 +89,16 @@ module _ (a : Around) (l : Layout) (name : ℕ → List ℕ) (n : ℕ) (result :
         let inner = record h { in_loop = true } in
         let si = in_loop h b st in
         fit_flagged h b st t _ _ (omega arith)
-        (stmt_fits s inner true known (suc t) si low.1 valid.2 (omega arith))
+        (fit_step inner true si t (omega arith) s (lowered_stmt a l name (suc t) s) (stmt_fits s inner true known (suc t) si low.1 valid.2 (omega arith)))
         (fit_then inner (lowered a l name (suc t) e) _ (expr_fits inner a l name n si.declares known e (suc t) low.0 valid.0.1 (omega arith))
         (fit_then inner (break_unless (i_ (suc t))) _ (fit_unless inner true si refl (suc t) (omega (arith, reach_some e))) (stmts_fit ss inner true known (suc t) si low.2 valid.3 (omega arith))))
     stmt_fits break h b known t st low valid le = fit_break h (st.loop valid)
     stmt_fits continue h b known t st low valid le = fit_continue h (st.loop valid)
     stmt_fits return_nothing h b known t st low valid le = fit_leave h (st.gives ∙ ap kind_of_result valid)
     stmt_fits (return e) h b known t st low valid le =
-        let same = (suits_same (type_of a e) result valid.1).kinds in
-        fit_then h (lowered a l name t e) _ (expr_fits h a l name n st.declares known e t low valid.2 le)
-        (fit_return h (kind_of result) (Name (of_ (type_of a e) t)) (st.gives ∙ some_result result valid.0) (subst (λ k. fits h k (Name (of_ (type_of a e) t)) ≡ true) same (of_fits h a l name n st.declares (type_of a e) t (omega (arith, reach_some e)))))
+        let same = (suits_same (type_of a e) result valid.0).kinds in
+        fit_then h (lowered a l name t e) _ (expr_fits h a l name n st.declares known e t low valid.1 le)
+        (fit_return h (kind_of result) (Name (of_ (type_of a e) t)) (st.gives ∙ some_result result valid.0.0) (subst (λ k. fits h k (Name (of_ (type_of a e) t)) ≡ true) same (of_fits h a l name n st.declares (type_of a e) t (omega (arith, reach_some e)))))
     stmt_fits other h b known t st low valid le = absurd low
 
     pub stmts_fit : (ss : Stmts) (h : Here) (b : Bool) (known : List ℕ) (t : ℕ) → Stands h b → AreLoweredStmts a ss → AreValidStmts a result b known ss → t + reach_stmts ss ≤ n → Fit h (lowered_stmts a l name t ss)

@@ -1,6 +1,6 @@
 -- A lowered function does what the function does, whatever its calls do, if they agree.
 use Rattle.std.proofs.Common.{◌≡◌, ℕ, zero, suc, ◌+◌, ◌*◌, ◌<◌, ◌≤◌, List, [], ◌∷◌, ◌++◌, length, map, get_or, refl, sym, ap, ap₂, ◌∙◌, arith, length-append}
-use Rattle.std.specs.Prelude.{pos, Bool, true, false, ◌&&◌, not, IsTrue, nat_eq, if◌then◌else◌, codes, Some, slice_get}
+use Rattle.std.specs.Prelude.{pos, Bool, true, false, ◌&&◌, not, IsTrue, nat_eq, if◌then◌else◌, codes, Some}
 use Rattle.std.specs.Str.{bytes_eq}
 use Rattle.std.proofs.lemmas.Bool.{eqb-true}
 use Rattle.mm_base.specs.declared.num.Trap.TheVariants as by
@@ -18,7 +18,8 @@ use Rattle.mm_core.specs.Meaning.{Flow, Next, Broke, Continued, Returned, result
 use Rattle.mm_core.specs.Valid.{IsValidStmt, sets}
 use Rattle.mm_core.specs.ValidProgram.{numbers_below, around}
 use Rattle.mm_core.specs.Fits.{Fits, AllFit, IsState}
-use Rattle.mm_core.proofs.Sound.{Known, Fine, Went, flow_fits}
+use Rattle.mm_core.specs.Keeps.{Known, inside}
+use Rattle.mm_core.proofs.Sound.{Fine, Went, flow_fits}
 use Rattle.mm_core.proofs.SoundCalls.{start_fits, below-Has}
 use Rattle.mm_c.specs.declared.value.CValue.{CValue}
 use Rattle.mm_c.specs.declared.value.CValue.TheVariants as holds
@@ -35,9 +36,8 @@ use Rattle.mm_simulate.specs.Names.{Place, temporary, named}
 use Rattle.mm_simulate.specs.Names as name
 use Rattle.mm_simulate.specs.Lowered.{v_, i_, kind_of_result, locals_from, ending, temporary_local, lowered_stmt, lowered_fn, IsLoweredStmt}
 use Rattle.mm_simulate.proofs.Names.{same, changed, at_name, at_other, kept, int_name}
-use Rattle.mm_simulate.proofs.Stores.{Frame, is_void, g, c_value, Stores}
+use Rattle.mm_simulate.proofs.Stores.{Frame, g, c_value, Stores}
 use Rattle.mm_simulate.proofs.Operators.{trap_stops}
-use Rattle.mm_simulate.proofs.Nodes.{AllSolid}
 use Rattle.mm_simulate.proofs.Stmts.{Did, stmt_agrees}
 
 -- ---- the names as a function begins
@@ -302,9 +302,9 @@ module _ (p : Program) (callable : Function → Bool) (l : Layout) (name_of : �
 
   -- ---- the body and its end
 
-  module _ (calls : Calls) (around' : c.Around) (has : HasPrelude around') (f : Function) (ok : Known p callable (local_types p.classes f) (length (argument_types p.classes f)) calls) where
+  module _ (calls : Calls) (around' : c.Around) (has : HasPrelude around') (f : Function) (ok : Known (inside p callable calls f)) where
     abbrev Going : List ℕ → List ℕ → Store → Flow → Store → Type 0
-    Going = Went p callable (local_types p.classes f) (length (argument_types p.classes f)) calls (λ known. ok) f.result false
+    Going = Went (inside p callable calls f) ok f.result false
 
     ends : (old : c.Names) (more known : List ℕ) (before : Store) (flow : Flow) (s : Store) (flow' : c.Flow) (u : c.Store) (k : ℕ) → Did (frame_of f) f.result 0 old flow s flow' u → Going more known before flow s → Alike p.classes l f.result (result_of f (Gives flow s k)) (c.end_of (kind_of_result f.result) (c.unless_left flow' (c.flows_of around' (ending f.result (is_main f))) u k))
     ends old more known before Next s flow' u k d q = rw d.on (fell (frame_of f) around' has f.result (is_main f) s u k (main_gives f) d.stores)
@@ -316,7 +316,7 @@ module _ (p : Program) (callable : Function → Bool) (l : Layout) (name_of : �
     body_ends old more known before _ _ (both_give q) = ends old more known before _ _ _ _ _ q.0 q.1
     body_ends old more known before _ _ (both_stop e) = both_stop e
 
-    module _ (agree : CallsAgree p l callable name_of (λ k. Unit {0}) calls around') (solid : (x : ℕ) → x < length (local_types p.classes f) → is_void (type_at (local_types p.classes f) x) ≡ false) (solid_calls : (n : ℕ) (f : Function) → slice_get p.functions n ≡ Some f → AllSolid (argument_types p.classes f)) where
+    module _ (agree : CallsAgree p l callable name_of (λ k. Unit {0}) calls around') where
       -- the theorem of a function
       pub function_agrees : (n : ℕ) (public' : Bool) (body : Stmt) (ds : List (CKind × ℕ)) → IsLoweredStmt (around callable p f) body → IsValidStmt (around callable p f) f.result false (numbers_below (length (argument_types p.classes f))) body → (vs : List Value) (s : State) (u : c.State) (k : ℕ) → AllFit p.classes s.objects (argument_types p.classes f) vs → IsState p.classes s → States p.classes l s u → Alike p.classes l f.result (enter (setting_of p calls) f body vs s k) (c.enter around' (lowered_fn (around callable p f) l name_of n public' f body ds) (all_in_c l s.objects vs) u k)
       function_agrees n public' body ds low valid vs s u k fits is states =
@@ -324,9 +324,9 @@ module _ (p : Program) (callable : Function → Bool) (l : Layout) (name_of : �
           let known = numbers_below count in
           let s0 : Store = record { locals = start vs f.locals; state = s } in
           let u0 = first f ds vs s u fits states in
-          let fine : Fine p callable (local_types p.classes f) count calls known s0 = record { state = is; locals = λ x low n. start_fits p.classes s.objects (argument_types p.classes f) vs f.locals x fits low (λ r. below-Has count x (n r)) } in
+          let fine : Fine (inside p callable calls f) known s0 = record { state = is; locals = λ x low n. start_fits p.classes s.objects (argument_types p.classes f) vs f.locals x fits low (λ r. below-Has count x (n r)) } in
           rw (given_all p.classes l s.objects 0 (argument_types p.classes f) vs c.no_names fits)
           (rw (flows-⨾ around' (lowered_stmt (around callable p f) l name_of 0 body) (ending f.result (is_main f)) u0 k)
           (body_ends u0.names (sets body) known s0 _ _ (agree_on (Going (sets body) known s0)
-          (stmt_agrees (frame_of f) calls around' has ok agree solid solid_calls f.result body false known 0 s0 u0 k low valid fine (first_stores f ds vs s u fits states))
-          (flow_fits p callable (local_types p.classes f) count calls (λ known. ok) f.result body false known s0 k valid fine))))
+          (stmt_agrees (frame_of f) calls around' has ok agree f.result body false known 0 s0 u0 k low valid fine (first_stores f ds vs s u fits states))
+          (flow_fits (inside p callable calls f) ok f.result body false known s0 k valid fine))))

@@ -18,7 +18,7 @@ use Rattle.mm_core.specs.declared.part.Target.{Target}
 use Rattle.mm_core.specs.declared.part.Target.TheVariants as to
 use Rattle.mm_core.specs.declared.part.Change.{Change}
 use Rattle.mm_core.specs.declared.part.Change.TheVariants.{Up, Down}
-use Rattle.mm_core.specs.Tree.{Expr, int, unsigned, bool, local, set_local, field, convert, binary, negation, both, either, choose, call, builtin, step_local, Exprs, no_exprs, expr_and, Function}
+use Rattle.mm_core.specs.Tree.{Expr, int, unsigned, bool, local, set_local, field, convert, binary, negation, both, either, choose, call, builtin, step_local, Exprs, no_exprs, expr_and}
 use Rattle.mm_core.specs.Heads.{type_at, is_reference, argument_types, class_in, same_type, class_shown, field_type}
 use Rattle.mm_core.specs.State as source
 use Rattle.mm_core.specs.State.{Value, Truth, Number, Word, Null, At, Nothing, Object, State, Store, with_local, or_trap, outside, at_once, object_at, class_of}
@@ -26,11 +26,12 @@ use Rattle.mm_core.specs.Scalar.{is_true, converted, operate, changed, number_or
 use Rattle.mm_core.specs.Objects.{get_field}
 use Rattle.mm_core.specs.Virtual.{Calls}
 use Rattle.mm_core.specs.Meaning.{Setting, ask, answered, does, put_local, value_of, values_of}
-use Rattle.mm_core.specs.Valid.{type_of, types_of, type_of_target, compares, is_number, is_arithmetic, is_pointer, as_pointer, parameters_of, result_of, result_of_function, Suits, AllSuit, AreOperands, Converts, AreBranches, IsValid, AreValid, IsFieldOf}
+use Rattle.mm_core.specs.Valid.{type_of, types_of, type_of_target, compares, is_number, is_arithmetic, is_pointer, as_pointer, types_asked, type_answered, result_of_function, Suits, AllSuit, AreOperands, Converts, AreBranches, IsValid, AreValid, IsFieldOf}
 use Rattle.mm_core.specs.Fits.{Shows, Fits, AllFit}
 use Rattle.mm_core.proofs.Scalars.{converted_fits}
-use Rattle.mm_core.proofs.Heap.{Gave, suits_fits}
-use Rattle.mm_core.proofs.Sound.{On, on_weaker, ask_operates, operated, Known, Fine, Did, DidAll, value_fits, values_fit, all_suit}
+use Rattle.mm_core.proofs.Heap.{suits_fits}
+use Rattle.mm_core.specs.Keeps.{On, Known, Gave}
+use Rattle.mm_core.proofs.Sound.{on_weaker, ask_operates, operated, Fine, Did, DidAll, value_fits, values_fit, all_suit}
 use Rattle.mm_c.specs.declared.value.CValue.{CValue}
 use Rattle.mm_c.specs.declared.value.CValue.TheVariants as holds
 use Rattle.mm_c.specs.declared.tree.CKind.TheVariants as kind
@@ -52,7 +53,7 @@ use Rattle.mm_simulate.specs.Names as name
 use Rattle.mm_simulate.specs.Lowered.{plain, word, bit, greatest, int_atom, i_, u_, p_, v_, of_, set, only_if, if_or, operator, conversion, zero_atom, step_end, change_in_c, step_code, overflow_if, called_for, builtin_name, atoms_from, lowered, lowered_all, IsLowered, AreLowered}
 use Rattle.mm_simulate.proofs.Names.{written, kept, apart_number}
 use Rattle.mm_simulate.proofs.Ints.{least_int, greatest_int, bounds}
-use Rattle.mm_simulate.proofs.Stores.{Frame, is_void, g, a, c_value, Stores, Keeps, Holds, holds_written, set_agrees, still, stores_on, stores_local, keeps_local, received_at, received_by}
+use Rattle.mm_simulate.proofs.Stores.{Frame, is_void, g, a, c_value, Stores, Keeps, Holds, holds_written, set_agrees, still, stores_on, stores_local, keeps_local, received_at, received_by, core}
 use Rattle.mm_simulate.proofs.Tests.{near_set, int_op, tested_set}
 use Rattle.mm_simulate.proofs.Operators.{zero_test, int_operator_agrees, word_operator_agrees, trap_unless, stores_near, keeps_near}
 
@@ -83,8 +84,8 @@ pointer_void (ty.Ptr d) = refl
 pointer_void (ty.Ref d) = refl
 
 pub suits_same : (t u : Ty) → Suits t u → Same t u
-suits_same t u (inl e) = subst (λ z. Same t z) e (same_self t)
-suits_same t u (inr e) = subst (λ z. Same t z) e (record { kinds = sym (pointer_kind t); void = λ v. sym (pointer_void t) ∙ v })
+suits_same t u (wanted, inl e) = subst (λ z. Same t z) e (same_self t)
+suits_same t u (wanted, inr e) = subst (λ z. Same t z) e (record { kinds = sym (pointer_kind t); void = λ v. sym (pointer_void t) ∙ v })
 
 pub same_if : (b : Bool) (t : Ty) → Same t (if b then t else as_pointer t)
 same_if true t = same_self t
@@ -108,11 +109,23 @@ abbrev pub AllSolid : List Ty → Type 0
 AllSolid [] = Unit {0}
 AllSolid (t ∷ ts) = (is_void t ≡ false) × AllSolid ts
 
-pub all_solid : (ts us : List Ty) → AllSuit ts us → AllSolid us → AllSolid ts
-all_solid [] [] h f = tt
-all_solid [] (u ∷ us) h f = absurd h
-all_solid (t ∷ ts) [] h f = absurd h
-all_solid (t ∷ ts) (u ∷ us) h f = ((suits_same t u h.0).void f.0, all_solid ts us h.1 f.1)
+pub not_void : (t : Ty) → t ≢ ty.Void → is_void t ≡ false
+not_void ty.Void ne = absurd (ne refl)
+not_void ty.Bool ne = refl
+not_void ty.Int ne = refl
+not_void ty.Unsigned ne = refl
+not_void (ty.Ptr d) ne = refl
+not_void (ty.Ref d) ne = refl
+
+-- what suits is a value
+pub solid : (t u : Ty) → Suits t u → is_void t ≡ false
+solid t u h = (suits_same t u h).void (not_void u h.0)
+
+pub all_solid : (ts us : List Ty) → AllSuit ts us → AllSolid ts
+all_solid [] [] h = tt
+all_solid [] (u ∷ us) h = absurd h
+all_solid (t ∷ ts) [] h = absurd h
+all_solid (t ∷ ts) (u ∷ us) h = (solid t u h.0, all_solid ts us h.1)
 
 -- ---- numbers
 
@@ -159,18 +172,18 @@ at_least z h = let x0 = (bounds z h).0 in let x1 = (bounds z h).1 in grind (arit
 
 -- ---- the section of all nodes
 
-module _ (m : Frame) (calls : Calls) (around : c.Around) (has : HasPrelude around) (known : List ℕ) (ok : Known m.program m.callable m.types m.arguments calls) (agree : CallsAgree m.program m.layout m.callable m.name_of (λ k. Unit {0}) calls around) (solid : (x : ℕ) → x < length m.types → is_void (type_at m.types x) ≡ false) (solid_calls : (n : ℕ) (f : Function) → slice_get m.program.functions n ≡ Some f → AllSolid (argument_types m.program.classes f)) where
+module _ (m : Frame) (calls : Calls) (around : c.Around) (has : HasPrelude around) (known : List ℕ) (ok : Known (core m calls)) (agree : CallsAgree m.program m.layout m.callable m.name_of (λ k. Unit {0}) calls around) where
   abbrev pub w : Setting
-  w = Rattle.mm_core.proofs.Sound.w m.program m.callable m.types m.arguments calls
+  w = Rattle.mm_core.proofs.Sound.w (core m calls)
 
   abbrev pub IsFine : Store → Type 0
-  IsFine = Fine m.program m.callable m.types m.arguments calls known
+  IsFine = Fine (core m calls) known
 
   abbrev pub Fitted : Ty → Store → Value → Store → Type 0
-  Fitted = Did m.program m.callable m.types m.arguments calls known
+  Fitted = Did (core m calls) known
 
   abbrev pub AllFitted : List Ty → Store → List Value → Store → Type 0
-  AllFitted = DidAll m.program m.callable m.types m.arguments calls known
+  AllFitted = DidAll (core m calls) known
 
   abbrev pub code : ℕ → Expr → Code
   code = lowered (a m) m.layout m.name_of
@@ -191,7 +204,7 @@ module _ (m : Frame) (calls : Calls) (around : c.Around) (has : HasPrelude aroun
 
   -- with what the source alone tells: the value fits
   pub full : (e : Expr) → Claim e → (t : ℕ) (s : Store) (u : c.Store) (k : ℕ) → IsLowered (a m) e → IsValid (a m) known e → IsFine s → Stores m s u → AgreeOn (λ v s' u'. Holds m t u.names (type_of (a m) e) v s' u' × Fitted (type_of (a m) e) s v s') (value_of w e s k) (flows_of around (code t e) u k)
-  full e ih t s u k low valid fine h = agree_weaken (agree_on (Fitted (type_of (a m) e) s) (ih t s u k low valid fine h) (value_fits m.program m.callable m.types m.arguments calls known ok e s k valid fine)) (λ v s' flow u' q. (q.0.0, (q.0.1, q.1)))
+  full e ih t s u k low valid fine h = agree_weaken (agree_on (Fitted (type_of (a m) e) s) (ih t s u k low valid fine h) (value_fits (core m calls) known ok e s k valid fine)) (λ v s' flow u' q. (q.0.0, (q.0.1, q.1)))
 
   -- ---- pieces
 
@@ -199,7 +212,7 @@ module _ (m : Frame) (calls : Calls) (around : c.Around) (has : HasPrelude aroun
   value_at t old type type' v s u e void h = subst (λ z. u.names (named (temporary z t)) ≡ c_value m s.state.objects v) e.kinds (h.value (e.void void))
 
   pub is_same : (t u : Ty) → t ≡ u → Same t u
-  is_same t u e = suits_same t u (inl e)
+  is_same t u e = subst (λ z. Same t z) e (same_self t)
 
   -- from where other code left, as another type
   holds_from : (t : ℕ) (old old' : c.Names) (type type' : Ty) (v : Value) (s : Store) (u : c.Store) → ((j : _) (x : ℕ) → x < t → old' (named (temporary j x)) ≡ old (named (temporary j x))) → Same type type' → Holds m t old' type v s u → Holds m t old type' v s u
@@ -234,7 +247,7 @@ module _ (m : Frame) (calls : Calls) (around : c.Around) (has : HasPrelude aroun
       let fits = suits_fits (g m) s1.state.objects (type_of (a m) e) (type_at m.types x) v valid.1 p.1.fits in
       let n = c_value m s1.state.objects v in
       gives_ran around _ (put_local x v s1 k1) (set (v_ x) (Atom (Name (of_ (type_of (a m) e) t)))) u1 k1
-      (set_ran around (v_ x) (Atom (Name (of_ (type_of (a m) e) t))) n u1 k1 (copy_gives around u1 k1 (Name (of_ (type_of (a m) e) t)) n (p.0.value (is.void (solid x valid.0)))) (received_by m s1.state.objects x v s1 u1 valid.0 p.0.stores fits))
+      (set_ran around (v_ x) (Atom (Name (of_ (type_of (a m) e) t))) n u1 k1 (copy_gives around u1 k1 (Name (of_ (type_of (a m) e) t)) n (p.0.value (solid (type_of (a m) e) (type_at m.types x) valid.1))) (received_by m s1.state.objects x v s1 u1 valid.0 p.0.stores fits))
       (both_give (refl, record {
         value = λ void. kept u1.names (name.local x) (temporary (kind_of (type_at m.types x)) t) n refl ∙ value_at t u.names (type_of (a m) e) (type_at m.types x) v s1 u1 is void p.0;
         kept = keeps_local m x n t u.names u1 p.0.kept;
@@ -418,7 +431,7 @@ module _ (m : Frame) (calls : Calls) (around : c.Around) (has : HasPrelude aroun
   -- ---- arguments
 
   pub full_all : (es : Exprs) → ClaimAll es → (t : ℕ) (s : Store) (u : c.Store) (k : ℕ) → AreLowered (a m) es → AreValid (a m) known es → IsFine s → Stores m s u → AgreeOn (λ vs s' u'. AllHold t u.names es vs s' u' × AllFitted (types_of (a m) es) s vs s') (values_of w es s k) (flows_of around (code_all t es) u k)
-  full_all es ih t s u k low valid fine h = agree_weaken (agree_on (AllFitted (types_of (a m) es) s) (ih t s u k low valid fine h) (values_fit m.program m.callable m.types m.arguments calls known ok es s k valid fine)) (λ v s' flow u' q. (q.0.0, (q.0.1, q.1)))
+  full_all es ih t s u k low valid fine h = agree_weaken (agree_on (AllFitted (types_of (a m) es) s) (ih t s u k low valid fine h) (values_fit (core m calls) known ok es s k valid fine)) (λ v s' flow u' q. (q.0.0, (q.0.1, q.1)))
 
   pub and_agrees : (e : Expr) (es : Exprs) → Claim e → ClaimAll es → ClaimAll (expr_and e es)
   and_agrees e es ih ihs t s u k low valid fine h =
@@ -466,9 +479,9 @@ module _ (m : Frame) (calls : Calls) (around : c.Around) (has : HasPrelude aroun
       after around (code_all t es) _ _ _ _ _ u k (full_all es ih t s u k low valid.1 fine h) (λ vs s1 u1 k1 p.
       let c' = valid.0 in
       let is : type_of (a m) (call f es) ≡ c'.0.result = ap result_of_function c'.1 in
-      let fits = all_suit m.program m.callable m.types m.arguments calls known ok s1.state.objects (types_of (a m) es) (argument_types (g m) c'.0) vs c'.4 p.1.fits in
+      let fits = all_suit (core m calls) known ok s1.state.objects (types_of (a m) es) (argument_types (g m) c'.0) vs c'.4 p.1.fits in
       called_agrees t u.names s1 u1 p.0.kept p.0.stores (type_of (a m) (call f es)) (m.name_of f) (atoms_from (a m) m.layout m.name_of t es) (map (c_value m s1.state.objects) vs) k1 (calls f vs)
-      (p.0.values (all_solid (types_of (a m) es) (argument_types (g m) c'.0) c'.4 (solid_calls f c'.0 c'.1)))
+      (p.0.values (all_solid (types_of (a m) es) (argument_types (g m) c'.0) c'.4))
       (subst (λ z. Alike (g m) m.layout z (calls f vs s1.state k1) (around.call (m.name_of f) (map (c_value m s1.state.objects) vs) u1.state k1)) (sym is) (agree.by f c'.0 vs s1.state u1.state k1 tt c'.1 c'.2 c'.3 fits p.1.fine.state p.0.stores.states))
       (subst (λ z. On (Gave (g m) z s1.state) (calls f vs s1.state k1)) (sym is) (ok.calls_fit f c'.0 vs s1.state k1 c'.1 c'.2 c'.3 p.1.fine.state fits)))
 
@@ -479,7 +492,7 @@ module _ (m : Frame) (calls : Calls) (around : c.Around) (has : HasPrelude aroun
     get_at None e = both_stop h.world
     get_at (Some z) e = both_give (record { value = refl; states = record { world = refl; heap = h.heap } })
 
-    builtin_alike : (b : Builtin) (vs : List Value) → AllFit (g m) s.objects (parameters_of b) vs → Alike (g m) m.layout (result_of b) (at_once (ask b vs) s k) (c.ask b (c.ints_in (map (c_value m s.objects) vs)) u k)
+    builtin_alike : (b : Builtin) (vs : List Value) → AllFit (g m) s.objects (types_asked b) vs → Alike (g m) m.layout (type_answered b) (at_once (ask b vs) s k) (c.ask b (c.ints_in (map (c_value m s.objects) vs)) u k)
     builtin_alike Put (Number z ∷ []) f = both_give (record { value = refl; states = record { world = ap (λ x. with_put x z) h.world; heap = h.heap } })
     builtin_alike Get [] f = subst (λ x. Alike (g m) m.layout ty.Int (at_once (ask Get []) s k) (c.answered (got x (slice_get x.input x.taken)) u k)) h.world (get_at (slice_get s.world.input s.world.taken) refl)
     builtin_alike More [] f = subst (λ x. Alike (g m) m.layout ty.Int (at_once (ask More []) s k) (c.answered (call_builtin More [] x) u k)) h.world (both_give (record { value = refl; states = record { world = refl; heap = h.heap } }))
@@ -498,19 +511,14 @@ module _ (m : Frame) (calls : Calls) (around : c.Around) (has : HasPrelude aroun
   asks Get vs = has.get vs
   asks More vs = has.more vs
 
-  parameters_solid : (b : Builtin) → AllSolid (parameters_of b)
-  parameters_solid Put = (refl, tt)
-  parameters_solid Get = tt
-  parameters_solid More = tt
-
   builtin_agrees : (b : Builtin) (es : Exprs) → ClaimAll es → Claim (builtin b es)
   builtin_agrees b es ih t s u k low valid fine h =
       after around (code_all t es) _ _ _ _ _ u k (full_all es ih t s u k low valid.1 fine h) (λ vs s1 u1 k1 p.
-      let fits = all_suit m.program m.callable m.types m.arguments calls known ok s1.state.objects (types_of (a m) es) (parameters_of b) vs valid.0 p.1.fits in
-      called_agrees t u.names s1 u1 p.0.kept p.0.stores (result_of b) (builtin_name b) (atoms_from (a m) m.layout m.name_of t es) (map (c_value m s1.state.objects) vs) k1 (at_once (ask b vs))
-      (p.0.values (all_solid (types_of (a m) es) (parameters_of b) valid.0 (parameters_solid b)))
+      let fits = all_suit (core m calls) known ok s1.state.objects (types_of (a m) es) (types_asked b) vs valid.0 p.1.fits in
+      called_agrees t u.names s1 u1 p.0.kept p.0.stores (type_answered b) (builtin_name b) (atoms_from (a m) m.layout m.name_of t es) (map (c_value m s1.state.objects) vs) k1 (at_once (ask b vs))
+      (p.0.values (all_solid (types_of (a m) es) (types_asked b) valid.0))
       (rw (asks b (map (c_value m s1.state.objects) vs)) (builtin_alike s1.state u1.state k1 p.0.stores.states b vs fits))
-      (operated m.program m.callable m.types m.arguments calls known (result_of b) s1.state (ask b vs s1.state) k1 (ask_operates m.program m.callable m.types m.arguments calls known ok b vs s1.state p.1.fine.state)))
+      (operated (core m calls) known (type_answered b) s1.state (ask b vs s1.state) k1 (ask_operates (core m calls) known ok b vs s1.state p.1.fine.state)))
 
   -- ---- steps
 

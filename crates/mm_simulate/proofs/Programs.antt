@@ -10,7 +10,7 @@ use Rattle.mm_classes.specs.declared.class.Ty.TheVariants as ty
 use Rattle.mm_classes.specs.Lists.{Has, first, later}
 use Rattle.mm_core.specs.declared.part.CoreParam.{CoreParam}
 use Rattle.mm_core.specs.Tree.{Stmt, block, Function, Program}
-use Rattle.mm_core.specs.Heads.{same_type, is_main, has_params, is_open, this_of, owner_of, types_of_params, argument_types, local_types, type_at}
+use Rattle.mm_core.specs.Heads.{same_type, is_main, has_params, is_open, argument_types}
 use Rattle.mm_core.specs.State as source
 use Rattle.mm_core.specs.State.{Value, State}
 use Rattle.mm_core.specs.Scalar.{int_value}
@@ -20,8 +20,7 @@ use Rattle.mm_core.specs.Run.{number_of_main, source_run}
 use Rattle.mm_core.specs.ValidProgram.{around, numbers_below, IsValidFunction, BodyFits}
 use Rattle.mm_core.specs.Valid.{IsValidStmt}
 use Rattle.mm_core.specs.Fits.{Fits, AllFit, IsState}
-use Rattle.mm_core.proofs.Heap.{Gave}
-use Rattle.mm_core.proofs.Sound.{Known}
+use Rattle.mm_core.specs.Keeps.{Known, Gave, inside}
 use Rattle.mm_agree.proofs.Steps.{agree_on, agree_weaken}
 use Rattle.mm_c.specs.declared.value.CValue.{CValue}
 use Rattle.mm_c.specs.declared.tree.CKind.{CKind}
@@ -37,9 +36,6 @@ use Rattle.mm_simulate.specs.Names.{function_named}
 use Rattle.mm_simulate.specs.Lowered.{Defined, is_defined, source_name, name_of, fn_of, item_of, head_of, entry, others, lowered_program, IsLoweredStmt}
 use Rattle.mm_simulate.proofs.Names.{is_false, function_name}
 use Rattle.mm_simulate.proofs.Defined.{defined_as, Apart, all_apart, complete}
-use Rattle.mm_simulate.proofs.Stores.{is_void}
-use Rattle.mm_simulate.proofs.Nodes.{AllSolid}
-use Rattle.mm_simulate.proofs.Stmts.{not_void}
 use Rattle.mm_simulate.proofs.Functions.{function_agrees}
 
 module _ (p : Program) (l : Layout) (temps : ℕ → List (CKind × ℕ)) where
@@ -84,40 +80,9 @@ module _ (p : Program) (l : Layout) (temps : ℕ → List (CKind × ℕ)) where
   pub prelude : (steps : c.Steps) → HasPrelude (c.around_all q steps)
   prelude steps = record { put = λ vs. refl; get = λ vs. refl; more = λ vs. refl; trap = λ vs. refl; new = λ vs. refl }
 
-  -- ---- a valid function has no local of type `void`
-
-  module _ (f : Function) (valid : IsValidFunction callable p f) where
-    solid_list : (ts : List Ty) → ((t : Ty) → Has ts t → t ≢ ty.Void) → AllSolid ts
-    solid_list [] h = tt
-    solid_list (t ∷ ts) h = (not_void t (h t (first refl)), solid_list ts (λ u m. h u (later m)))
-
-    solid_append : (ts us : List Ty) → AllSolid ts → AllSolid us → AllSolid (ts ++ us)
-    solid_append [] us h k = k
-    solid_append (t ∷ ts) us h k = (h.0, solid_append ts us h.1 k)
-
-    solid_this : (b : Bool) (o : Option ℕ) → AllSolid (if b then this_of o else [])
-    solid_this true None = tt
-    solid_this true (Some d) = (refl, tt)
-    solid_this false o = tt
-
-    solid_params : (qs : List CoreParam) → ((x : CoreParam) → Has qs x → x.ty ≢ ty.Void) → AllSolid (types_of_params qs)
-    solid_params [] h = tt
-    solid_params (x ∷ qs) h = (not_void x.ty (h x (first refl)), solid_params qs (λ y m. h y (later m)))
-
-    pub arguments_solid : AllSolid (argument_types p.classes f)
-    arguments_solid = solid_append (if f.member then this_of (owner_of p.classes f) else []) (types_of_params f.params) (solid_this f.member (owner_of p.classes f)) (solid_params f.params (λ x h. (valid.params x h).0.1))
-
-    solid_at : (ts : List Ty) (x : ℕ) → AllSolid ts → x < length ts → is_void (type_at ts x) ≡ false
-    solid_at [] x h low = absurd (let z : ⊥ = omega arith in z)
-    solid_at (t ∷ ts) zero h low = h.0
-    solid_at (t ∷ ts) (suc x) h low = solid_at ts x h.1 (omega arith)
-
-    pub locals_solid : (x : ℕ) → x < length (local_types p.classes f) → is_void (type_at (local_types p.classes f) x) ≡ false
-    locals_solid x low = solid_at (local_types p.classes f) x (solid_append (argument_types p.classes f) f.locals arguments_solid (solid_list f.locals (λ t h. (valid.locals t h).1))) low
-
   -- ---- the main induction
 
-  module _ (known : (n : ℕ) (types : List Ty) (arguments : ℕ) → Known p callable types arguments (call_of p n)) (valid : (i : ℕ) (f : Function) → slice_get p.functions i ≡ Some f → IsValidFunction callable p f) (defined : (f : Function) → IsTrue (callable f) → f.defined ≡ true) (low : (i : ℕ) (f : Function) (b : Stmt) → slice_get p.functions i ≡ Some f → f.body ≡ Some b → IsLoweredStmt (around callable p f) b) where
+  module _ (known : (n : ℕ) (f : Function) → Known (inside p callable (call_of p n) f)) (valid : (i : ℕ) (f : Function) → slice_get p.functions i ≡ Some f → IsValidFunction callable p f) (defined : (f : Function) → IsTrue (callable f) → f.defined ≡ true) (low : (i : ℕ) (f : Function) (b : Stmt) → slice_get p.functions i ≡ Some f → f.body ≡ Some b → IsLoweredStmt (around callable p f) b) where
     record HasBody (f : Function) : Type 0 where
       stmt : Stmt
       is : f.body ≡ Some stmt
@@ -129,14 +94,11 @@ module _ (p : Program) (l : Layout) (temps : ℕ → List (CKind × ℕ)) where
     body_of f true (Some st) e h v = absurd v
     body_of f false o e h v = cc
 
-    solid_calls : (n : ℕ) (f : Function) → slice_get p.functions n ≡ Some f → AllSolid (argument_types p.classes f)
-    solid_calls n f e = arguments_solid f (valid n f e)
-
     -- the call of a function, and of its code
     steps_agree : (n i : ℕ) (f : Function) (b : HasBody f) (vs : List Value) (s : State) (u : c.State) (k : ℕ) → CallsAgree p l callable (name_of p) (λ k. Unit {0}) (call_of p n) (c.around_all q (c.steps_of q n)) → slice_get p.functions i ≡ Some f → AllFit p.classes s.objects (argument_types p.classes f) vs → IsState p.classes s → States p.classes l s u → Alike p.classes l f.result (call_of p (suc n) i vs s k) (c.steps_of q (suc n) (fn_of p l temps (defined_as i f b.stmt)) (all_in_c l s.objects vs) u k)
     steps_agree n i f b vs s u zero agree e fits is states = both_stop states.world
     steps_agree n i f b vs s u (suc k) agree e fits is states =
-        rw (e, b.is) (function_agrees p callable l (name_of p) (call_of p n) (c.around_all q (c.steps_of q n)) (prelude (c.steps_of q n)) f (known n (local_types p.classes f) (length (argument_types p.classes f))) agree (locals_solid f (valid i f e)) solid_calls i (nat_eq i (number_of_main p.functions)) b.stmt (temps i) (low i f b.stmt e b.is) b.fits vs s u k fits is states)
+        rw (e, b.is) (function_agrees p callable l (name_of p) (call_of p n) (c.around_all q (c.steps_of q n)) (prelude (c.steps_of q n)) f (known n f) agree i (nat_eq i (number_of_main p.functions)) b.stmt (temps i) (low i f b.stmt e b.is) b.fits vs s u k fits is states)
 
     pub calls_agree : (n : ℕ) → CallsAgree p l callable (name_of p) (λ k. Unit {0}) (call_of p n) (c.around_all q (c.steps_of q n))
     calls_agree zero = record { by = λ i f vs s u k at e closed ok fits is states.
@@ -229,7 +191,7 @@ module _ (p : Program) (l : Layout) (temps : ℕ → List (CKind × ℕ)) where
           let h = main_is f is.1 in
           let fits : AllFit p.classes (by.starting input).objects (argument_types p.classes f) [] = subst (λ ts. AllFit p.classes [] ts []) (sym (main_arguments f h)) tt in
           let alike = (calls_agree n).by (number_of_main p.functions) f [] (by.starting input) (run.starting input) n tt there.1 (closed _ f there.1) (all_defined f is.0) fits (begins input ints) (states_begin input) in
-          let gave = (known n (local_types p.classes f) 0).calls_fit (number_of_main p.functions) f [] (by.starting input) n there.1 (closed _ f there.1) (all_defined f is.0) (begins input ints) fits in
+          let gave = (known n f).calls_fit (number_of_main p.functions) f [] (by.starting input) n there.1 (closed _ f there.1) (all_defined f is.0) (begins input ints) fits in
           ap (λ x. run.outcome_of (c.named_call q n x [] (run.starting input) n)) (sym main_name)
           ∙ outcome_same _ _ (agree_weaken (agree_on (Gave p.classes f.result (by.starting input)) alike gave) (λ v s r u y. (subst (λ t. SameResult p.classes l t v s r u) h.result y.0, subst (λ t. Fits p.classes s.objects t v) h.result y.1.fits)))
 

@@ -1,18 +1,16 @@
 -- Programs of scalar functions: what is called fits, and the theorem.
-use Rattle.std.proofs.Common.{◌≡◌, ℕ, zero, suc, List, [], ◌∷◌, length, refl, sym, subst, ◌∙◌}
+use Rattle.std.proofs.Common.{◌≡◌, ℕ, zero, suc, List, [], ◌∷◌, refl, sym, subst, ◌∙◌}
 use Rattle.std.specs.Prelude.{Bool, true, false, IsTrue, Option, Some, None, slice_get}
 use Rattle.mm_meaning.specs.Run.{step}
-use Rattle.mm_classes.specs.declared.class.Ty.{Ty}
 use Rattle.mm_classes.specs.Lists.{Has, first, later}
 use Rattle.mm_classes.specs.Classes.{Class, IsClassList}
 use Rattle.mm_core.specs.Tree.{Stmt, block, Function, Program}
-use Rattle.mm_core.specs.Heads.{is_open, is_reference, field_type, argument_types, local_types}
+use Rattle.mm_core.specs.Heads.{is_open, is_reference, field_type, argument_types}
 use Rattle.mm_core.specs.State.{Value, State, Spent}
 use Rattle.mm_core.specs.Meaning.{call_of, enter_if, enter_body, setting_of}
 use Rattle.mm_core.specs.ValidProgram.{around, IsValidFunction, BodyFits}
 use Rattle.mm_core.specs.Fits.{AllFit, IsState}
-use Rattle.mm_core.proofs.Heap.{Gave}
-use Rattle.mm_core.proofs.Sound.{On, Known}
+use Rattle.mm_core.specs.Keeps.{On, Known, Gave, inside}
 use Rattle.mm_core.proofs.SoundCalls.{function_fits}
 use Rattle.mm_simulate.specs.Simulates.{IsScalar, Simulates}
 use Rattle.mm_simulate.proofs.Programs.{translates}
@@ -41,9 +39,9 @@ module _ (p : Program) (scalar : IsScalar p) where
   no_member : (g : List Class) (c n : ℕ) → g ≡ [] → slice_get (Rattle.mm_classes.specs.Classes.members_of g c) n ≡ None
   no_member g c n e = subst (λ g. slice_get (Rattle.mm_classes.specs.Classes.members_of g c) n ≡ None) (sym e) refl
 
-  known_from : (n : ℕ) → FitsAt n → (types : List Ty) (arguments : ℕ) → Known p callable types arguments (call_of p n)
+  known_from : (n : ℕ) → FitsAt n → (f : Function) → Known (inside p callable (call_of p n) f)
   unfolding FitsAt
-  known_from n fits types arguments = record {
+  known_from n fits f = record {
     listed = scalar.merged.valid.listed;
     plain = plain;
     calls_fit = fits;
@@ -52,7 +50,7 @@ module _ (p : Program) (scalar : IsScalar p) where
   }
 
   body_fits : (n : ℕ) (f : Function) (d : Bool) (o : Option Stmt) (vs : List Value) (s : State) (k : ℕ) → FitsAt n → d ≡ true → BodyFits (around callable p f) f.result d o → AllFit p.classes s.objects (argument_types p.classes f) vs → IsState p.classes s → On (Gave p.classes f.result s) (enter_body (setting_of p (call_of p n)) f o vs s k)
-  body_fits n f true (Some (block ss)) vs s k ih e v fits is = function_fits p callable (call_of p n) f (λ known. known_from n ih (local_types p.classes f) (length (argument_types p.classes f))) (block ss) vs s k v fits is
+  body_fits n f true (Some (block ss)) vs s k ih e v fits is = function_fits p callable (call_of p n) f (known_from n ih f) (block ss) vs s k v fits is
   body_fits n f true None vs s k ih e v fits is = absurd v
   body_fits n f true (Some st) vs s k ih e v fits is = absurd v
   body_fits n f false o vs s k ih e v fits is = cc
@@ -66,8 +64,8 @@ module _ (p : Program) (scalar : IsScalar p) where
   fits_at zero i f vs s k e closed ok is fits = tt
   fits_at (suc n) i f vs s k e closed ok is fits = fits_step n i f vs s k (fits_at n) e ok is fits
 
-  pub known_at : (n : ℕ) (types : List Ty) (arguments : ℕ) → Known p callable types arguments (call_of p n)
-  known_at n types arguments = known_from n (fits_at n) types arguments
+  pub known_at : (n : ℕ) (f : Function) → Known (inside p callable (call_of p n) f)
+  known_at n f = known_from n (fits_at n) f
 
 -- the theorem
 pub simulates : Simulates

@@ -1,4 +1,6 @@
 -- Stores that correspond, and what every node uses.
+use Rattle.mm_core.specs.Keeps as keeps
+use Rattle.mm_core.specs.Virtual.{Calls}
 use Rattle.std.proofs.Common.{◌≡◌, ◌≢◌, ℕ, ◌<◌, List, length, refl, sym, ◌∙◌, subst, arith}
 use Rattle.std.specs.Prelude.{Bool, true, false, nat_eq}
 use Rattle.std.proofs.lemmas.Bool.{eqb-true}
@@ -33,6 +35,10 @@ pub record Frame : Type 0 where
   pub arguments : ℕ
   pub layout : Layout
   pub name_of : ℕ → List ℕ
+
+-- the same with what calls do
+abbrev pub core : Frame → Calls → keeps.Frame
+core m calls = record { program = m.program; callable = m.callable; types = m.types; arguments = m.arguments; calls = calls }
 
 abbrev pub is_void : Ty → Bool
 is_void ty.Void = true

@@ -15,7 +15,7 @@ use Rattle.mm_core.specs.Tree.{Expr, int, unsigned, bool, local, set_local, fiel
 use Rattle.mm_core.specs.Heads.{is_main, type_at, class_shown, argument_types}
 use Rattle.mm_core.specs.ValidProgram.{around}
 use Rattle.mm_core.specs.Run.{number_of_main}
-use Rattle.mm_core.specs.Valid.{Around, type_of, result_of, is_pointer}
+use Rattle.mm_core.specs.Valid.{Around, type_of, type_answered, is_pointer}
 use Rattle.mm_c.specs.declared.tree.CKind.{CKind}
 use Rattle.mm_c.specs.declared.tree.CKind.TheVariants as kind
 use Rattle.mm_c.specs.declared.tree.CAtom.{CAtom}
@@ -218,6 +218,17 @@ builtin_name More = codes "mm_more"
 abbrev pub break_unless : List ℕ → Code
 break_unless x = if_or x done (just c.break)
 
+-- ---- loops
+
+-- A loop in whose turns something stands before the body, but in the first one: t tells whether it is due.
+abbrev pub flagged : ℕ → Code → Code → Code
+flagged t before body = set (i_ t) (Atom (plain 0)) ⨾ just (c.forever (block_of (only_if (i_ t) before ⨾ (set (i_ t) (Atom (plain 1)) ⨾ body))))
+
+-- The step of a `for`. One that may end the turn leaves none due for the next.
+abbrev pub step_in : ℕ → Stmt → Code → Code
+step_in t (run e) code = code
+step_in t other code = set (i_ t) (Atom (plain 0)) ⨾ code
+
 module _ (a : Around) (l : Layout) (named_of : ℕ → List ℕ) where
   -- the temporaries from t on, one for each expression
   abbrev pub atoms_from : ℕ → Exprs → List CAtom
@@ -240,7 +251,7 @@ module _ (a : Around) (l : Layout) (named_of : ℕ → List ℕ) where
     lowered t (either d e) = lowered t d ⨾ if_or (i_ t) done (lowered t e)
     lowered t (choose e d f) = lowered t e ⨾ if_or (i_ t) (lowered t d) (lowered t f)
     lowered t (call f es) = lowered_all t es ⨾ called_for t (type_of a (call f es)) (Named (named_of f) (atoms_from t es))
-    lowered t (builtin b es) = lowered_all t es ⨾ called_for t (result_of b) (Named (builtin_name b) (atoms_from t es))
+    lowered t (builtin b es) = lowered_all t es ⨾ called_for t (type_answered b) (Named (builtin_name b) (atoms_from t es))
     lowered t (step_local x change) = step_code t x change (type_at a.locals x)
     lowered t other = done
 
@@ -251,10 +262,6 @@ module _ (a : Around) (l : Layout) (named_of : ℕ → List ℕ) where
 
   -- ---- statements
 
-  -- A loop whose first turn differs: t tells the later ones.
-  abbrev pub flagged : ℕ → Code → Code → Code
-  flagged t later body = set (i_ t) (Atom (plain 0)) ⨾ just (c.forever (block_of (only_if (i_ t) later ⨾ (set (i_ t) (Atom (plain 1)) ⨾ body))))
-
   abbrev mutual
     pub lowered_stmt : ℕ → Stmt → Code
     lowered_stmt t (block ss) = lowered_stmts t ss
@@ -262,7 +269,7 @@ module _ (a : Around) (l : Layout) (named_of : ℕ → List ℕ) where
     lowered_stmt t (if_else e ss ts) = lowered t e ⨾ if_or (i_ t) (lowered_stmts t ss) (lowered_stmts t ts)
     lowered_stmt t (while_do e ss) = just (c.forever (block_of (lowered t e ⨾ (break_unless (i_ t) ⨾ lowered_stmts t ss))))
     lowered_stmt t (do_while ss e) = flagged t (lowered (suc t) e ⨾ break_unless (i_ (suc t))) (lowered_stmts (suc t) ss)
-    lowered_stmt t (for_do e s ss) = flagged t (lowered_stmt (suc t) s) (lowered (suc t) e ⨾ (break_unless (i_ (suc t)) ⨾ lowered_stmts (suc t) ss))
+    lowered_stmt t (for_do e s ss) = flagged t (step_in t s (lowered_stmt (suc t) s)) (lowered (suc t) e ⨾ (break_unless (i_ (suc t)) ⨾ lowered_stmts (suc t) ss))
     lowered_stmt t break = just c.break
     lowered_stmt t continue = just c.continue
     lowered_stmt t return_nothing = just c.leave
