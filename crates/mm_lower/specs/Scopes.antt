@@ -1,14 +1,14 @@
 -- What stands around a body whose code is written, and what its code is. (Own.)
-use Rattle.std.specs.Prelude.{ℕ, suc, max, List, [], map}
+use Rattle.std.specs.Prelude.{ℕ, List, [], map}
 use Rattle.mm_classes.specs.declared.class.Ty.{Ty}
 use Rattle.mm_core.specs.declared.tree.CoreFn.{CoreFn}
-use Rattle.mm_core.specs.Tree.{Expr, Exprs, Stmt, block, run, if_else, while_do, do_while, for_do, return, Stmts, no_stmts, stmt_and, Program}
+use Rattle.mm_core.specs.Tree.{Expr, Exprs, Stmt, Stmts, Program}
 use Rattle.mm_core.specs.Valid.{Around, type_of}
 use Rattle.mm_core.specs.View.{function_view}
 use Rattle.mm_c.specs.declared.tree.CAtom.{CAtom}
 use Rattle.mm_c.specs.Tree.{Code}
 use Rattle.mm_agree.specs.Agree.{Layout}
-use Rattle.mm_simulate.specs.Lowered.{reach, is_defined, name_of, atoms_from, lowered, lowered_all, lowered_stmt, lowered_stmts, IsLowered, AreLowered, IsLoweredStmt, AreLoweredStmts}
+use Rattle.mm_simulate.specs.Lowered.{is_defined, name_of, atoms_from, lowered, lowered_all, lowered_stmt, lowered_stmts, IsLowered, AreLowered, IsLoweredStmt, AreLoweredStmts}
 use Rattle.mm_lower.specs.declared.scope.Scope.{Scope}
 
 -- functions as a program, without classes
@@ -55,19 +55,3 @@ StmtIsIn s = IsLoweredStmt (around_in s)
 
 abbrev pub StmtsAreIn : Scope → Stmts → Type 0
 StmtsAreIn s = AreLoweredStmts (around_in s)
-
--- how many temporaries from t on the code of a statement uses
-abbrev mutual
-  pub reach_stmt : Stmt → ℕ
-  reach_stmt (block ss) = reach_stmts ss
-  reach_stmt (run e) = reach e
-  reach_stmt (if_else e ss ts) = max (reach e) (max (reach_stmts ss) (reach_stmts ts))
-  reach_stmt (while_do e ss) = max (reach e) (reach_stmts ss)
-  reach_stmt (do_while ss e) = suc (max (reach e) (reach_stmts ss))
-  reach_stmt (for_do e s ss) = suc (max (reach e) (max (reach_stmt s) (reach_stmts ss)))
-  reach_stmt (return e) = reach e
-  reach_stmt other = 0
-
-  pub reach_stmts : Stmts → ℕ
-  reach_stmts no_stmts = 0
-  reach_stmts (stmt_and s ss) = max (reach_stmt s) (reach_stmts ss)

@@ -2,7 +2,7 @@
 // number t; so does the node's.
 
 ghost use Rattle.std.specs.Prelude.{◌≡◌, ◌+◌, ◌^◌, ◌<◌, if◌then◌else◌, map, slice_get, IfOk, OnOk};
-ghost use Rattle.mm_classes.specs.declared.class.Ty.TheVariants as ty;
+ghost use Rattle.mm_classes.specs.declared.class.Ty.TheVariants as type;
 ghost use Rattle.mm_core.specs.declared.part.Target.TheVariants as target;
 ghost use Rattle.mm_core.specs.Heads.{type_at};
 ghost use Rattle.mm_core.specs.Valid as valid;
@@ -11,6 +11,7 @@ ghost use Rattle.mm_c.specs.declared.tree.CAtom.TheVariants as atom;
 ghost use Rattle.mm_c.specs.declared.tree.CCall.TheVariants as call;
 ghost use Rattle.mm_c.specs.declared.tree.CExpr.TheVariants as expr;
 ghost use Rattle.mm_c.specs.declared.tree.COperator.TheVariants as o;
+ghost use Rattle.mm_c.specs.Tree as tree;
 ghost use Rattle.mm_c.specs.Tree.{◌⨾◌};
 ghost use Rattle.mm_c.specs.View.{code_view};
 ghost use Rattle.mm_simulate.specs.Lowered as lowered;
@@ -22,7 +23,7 @@ use crate::name::{Name, plain, word};
 use crate::operator::{Operands, on_ints, on_words, operator_in_c};
 use crate::scope::Scope;
 use crate::types::{kind_of, operator_type, type_of_builtin, type_of_target};
-use crate::write::{set, trap_if};
+use crate::write::{if_or, only_if, set, trap_if};
 use mm_base::text::Text;
 use mm_base::world::Builtin;
 use mm_c::tree::{CAtom, CCall, CExpr, CKind, CNumber, COperator, CStmt};
@@ -35,17 +36,29 @@ use std::alloc::{AllocError, Global};
 const GREATEST: u32 = 2_147_483_647;
 
 /// The `int` temporary of a number.
-pub const fn int_name(t: u32) -> Name {
+pub fn int_name(t: u32) -> Name
+    ensures { text_of result ≡ lowered.i_ t }
+{
     Name::Temporary(CKind::Int, t)
 }
 
-const fn word_name(t: u32) -> Name {
+// The `unsigned` temporary of a number.
+fn word_name(t: u32) -> Name
+    ensures { text_of result ≡ lowered.u_ t }
+{
     Name::Temporary(CKind::Unsigned, t)
 }
 
+// The temporary of a number for pointers.
+fn pointer_name(t: u32) -> Name
+    ensures { text_of result ≡ lowered.p_ t }
+{
+    Name::Temporary(CKind::Pointer, t)
+}
+
 /// The temporary for a value of a type.
-pub fn name_for(ty: Ty, t: u32) -> Name
-    ensures { text_of result ≡ lowered.of_ ty t }
+pub fn name_for(ty: &Ty, t: u32) -> Name
+    ensures { text_of result ≡ lowered.of_ ty.now t }
 {
     Name::Temporary(kind_of(ty), t)
 }
@@ -73,7 +86,7 @@ pub fn load_int(
     z: i32,
 ) -> Result<Ty, AllocError>
     ensures code { OnOk result (code_view code.new ≡ code_view code.old ⨾ lowered.set (lowered.i_ t) (expr.Atom (lowered.int_atom z))) }
-    ensures value { IfOk result (λ type. type ≡ ty.Int) }
+    ensures value { IfOk result (λ found. found ≡ type.Int) }
 {
     set(alloc, code, int_name(t), CExpr::Atom(int_atom(z)))?;
     Ok(Ty::Int)
@@ -87,7 +100,7 @@ pub fn load_word(
     n: u32,
 ) -> Result<Ty, AllocError>
     ensures code { OnOk result (code_view code.new ≡ code_view code.old ⨾ lowered.set (lowered.u_ t) (expr.Atom (lowered.word n))) }
-    ensures value { IfOk result (λ type. type ≡ ty.Unsigned) }
+    ensures value { IfOk result (λ found. found ≡ type.Unsigned) }
 {
     set(alloc, code, word_name(t), CExpr::Atom(word(n)))?;
     Ok(Ty::Unsigned)
@@ -101,7 +114,7 @@ pub fn load_bool(
     b: bool,
 ) -> Result<Ty, AllocError>
     ensures code { OnOk result (code_view code.new ≡ code_view code.old ⨾ lowered.set (lowered.i_ t) (expr.Atom (lowered.plain (lowered.bit b)))) }
-    ensures value { IfOk result (λ type. type ≡ ty.Bool) }
+    ensures value { IfOk result (λ found. found ≡ type.Bool) }
 {
     let bit = if b { plain(1) } else { plain(0) };
     set(alloc, code, int_name(t), CExpr::Atom(bit))?;
@@ -117,11 +130,11 @@ pub fn load_local(
     local: u32,
 ) -> Result<Ty, AllocError>
     ensures code { OnOk result (code_view code.new ≡ code_view code.old ⨾ lowered.set (lowered.of_ (type_at scope.now.locals.now local) t) (expr.Atom (atom.Name (lowered.v_ local)))) }
-    ensures value { IfOk result (λ type. type ≡ type_at scope.now.locals.now local) }
+    ensures value { IfOk result (λ found. found ≡ type_at scope.now.locals.now local) }
 {
     let ty = scope.type_at(local);
     let value = Name::Local(local).atom(alloc)?;
-    set(alloc, code, name_for(ty, t), CExpr::Atom(value))?;
+    set(alloc, code, name_for(&ty, t), CExpr::Atom(value))?;
     Ok(ty)
 }
 
@@ -132,10 +145,10 @@ pub fn store_local(
     code: &mut Items<CStmt>,
     t: u32,
     local: u32,
-    ty: Ty,
+    ty: &Ty,
 ) -> Result<Ty, AllocError>
-    ensures code { OnOk result (code_view code.new ≡ code_view code.old ⨾ lowered.set (lowered.v_ local) (expr.Atom (atom.Name (lowered.of_ ty t)))) }
-    ensures value { IfOk result (λ type. type ≡ type_at scope.now.locals.now local) }
+    ensures code { OnOk result (code_view code.new ≡ code_view code.old ⨾ lowered.set (lowered.v_ local) (expr.Atom (atom.Name (lowered.of_ ty.now t)))) }
+    ensures value { IfOk result (λ found. found ≡ type_at scope.now.locals.now local) }
 {
     let value = name_for(ty, t).atom(alloc)?;
     set(alloc, code, Name::Local(local), CExpr::Atom(value))?;
@@ -148,10 +161,10 @@ pub fn convert(
     code: &mut Items<CStmt>,
     t: u32,
     target: Target,
-    ty: Ty,
+    ty: &Ty,
 ) -> Result<Ty, AllocError>
-    ensures code { OnOk result (code_view code.new ≡ code_view code.old ⨾ lowered.conversion t target ty) }
-    ensures value { IfOk result (λ type. type ≡ valid.type_of_target target) }
+    ensures code { OnOk result (code_view code.new ≡ code_view code.old ⨾ lowered.conversion t target ty.now) }
+    ensures value { IfOk result (λ found. found ≡ valid.type_of_target target) }
 {
     match target {
         Target::Bool => {
@@ -169,8 +182,8 @@ pub fn convert(
 }
 
 // The zero of a type's kind.
-fn zero_of(ty: Ty) -> CAtom
-    ensures { result ≡ lowered.zero_atom ty }
+fn zero_of(ty: &Ty) -> CAtom
+    ensures { result ≡ lowered.zero_atom ty.now }
 {
     match ty {
         Ty::Unsigned => word(0),
@@ -179,8 +192,8 @@ fn zero_of(ty: Ty) -> CAtom
 }
 
 // A value of a type, converted to `int`.
-fn to_int(alloc: Global, code: &mut Items<CStmt>, t: u32, ty: Ty) -> Result<(), AllocError>
-    ensures { OnOk result (code_view code.new ≡ code_view code.old ⨾ lowered.conversion t target.Int ty) }
+fn to_int(alloc: Global, code: &mut Items<CStmt>, t: u32, ty: &Ty) -> Result<(), AllocError>
+    ensures { OnOk result (code_view code.new ≡ code_view code.old ⨾ lowered.conversion t target.Int ty.now) }
 {
     match ty {
         Ty::Unsigned => {
@@ -202,8 +215,8 @@ fn on_pointers(
     requires { t + 1 < 2 ^ 32 }
     ensures { OnOk result (code_view code.new ≡ code_view code.old ⨾ lowered.set (text_of to) (expr.Binary (atom.Name (lowered.p_ t)) (lowered.op_in_c operator) (atom.Name (lowered.p_ (t + 1))))) }
 {
-    let left = Name::Temporary(CKind::Pointer, t).atom(alloc)?;
-    let right = Name::Temporary(CKind::Pointer, t + 1).atom(alloc)?;
+    let left = pointer_name(t).atom(alloc)?;
+    let right = pointer_name(t + 1).atom(alloc)?;
     set(alloc, code, to, CExpr::Binary(left, operator_in_c(operator), right))
 }
 
@@ -213,14 +226,14 @@ pub fn operate(
     code: &mut Items<CStmt>,
     t: u32,
     operator: Operator,
-    ty: Ty,
+    ty: &Ty,
 ) -> Result<Ty, AllocError>
     requires { t + 3 < 2 ^ 32 }
-    ensures code { OnOk result (code_view code.new ≡ code_view code.old ⨾ lowered.operator t operator ty (if valid.compares operator then ty.Bool else ty)) }
-    ensures value { IfOk result (λ type. type ≡ if valid.compares operator then ty.Bool else ty) }
+    ensures code { OnOk result (code_view code.new ≡ code_view code.old ⨾ lowered.operator t operator ty.now (if valid.compares operator then type.Bool else ty.now)) }
+    ensures value { IfOk result (λ found. found ≡ if valid.compares operator then type.Bool else ty.now) }
 {
     let result = operator_type(operator, ty);
-    let to = name_for(result, t);
+    let to = name_for(&result, t);
     match ty {
         Ty::Unsigned => {
             let left = word_name(t);
@@ -242,11 +255,40 @@ pub fn operate(
 /// The opposite of a `bool`.
 pub fn negate(alloc: Global, code: &mut Items<CStmt>, t: u32) -> Result<Ty, AllocError>
     ensures code { OnOk result (code_view code.new ≡ code_view code.old ⨾ lowered.set (lowered.i_ t) (expr.Binary (atom.Name (lowered.i_ t)) o.Equal (lowered.plain 0))) }
-    ensures value { IfOk result (λ type. type ≡ ty.Bool) }
+    ensures value { IfOk result (λ found. found ≡ type.Bool) }
 {
     let value = int_name(t).atom(alloc)?;
     let test = CExpr::Binary(value, COperator::Equal, plain(0));
     set(alloc, code, int_name(t), test)?;
+    Ok(Ty::Bool)
+}
+
+/// The second of two `bool`s, where the first, in t, is true.
+pub fn and_then(
+    alloc: Global,
+    code: &mut Items<CStmt>,
+    t: u32,
+    second: Items<CStmt>,
+) -> Result<Ty, AllocError>
+    ensures code { OnOk result (code_view code.new ≡ code_view code.old ⨾ lowered.only_if (lowered.i_ t) (code_view second)) }
+    ensures value { IfOk result (λ found. found ≡ type.Bool) }
+{
+    only_if(alloc, code, int_name(t), second)?;
+    Ok(Ty::Bool)
+}
+
+/// The second of two `bool`s, where the first, in t, is false.
+pub fn or_else(
+    alloc: Global,
+    code: &mut Items<CStmt>,
+    t: u32,
+    second: Items<CStmt>,
+) -> Result<Ty, AllocError>
+    ensures code { OnOk result (code_view code.new ≡ code_view code.old ⨾ lowered.if_or (lowered.i_ t) tree.done (code_view second)) }
+    ensures value { IfOk result (λ found. found ≡ type.Bool) }
+{
+    let nothing = Items::new(alloc);
+    if_or(alloc, code, int_name(t), nothing, second)?;
     Ok(Ty::Bool)
 }
 
@@ -255,10 +297,10 @@ fn call_for(
     alloc: Global,
     code: &mut Items<CStmt>,
     t: u32,
-    ty: Ty,
+    ty: &Ty,
     call: CCall,
 ) -> Result<(), AllocError>
-    ensures { OnOk result (code_view code.new ≡ code_view code.old ⨾ lowered.called_for t ty call) }
+    ensures { OnOk result (code_view code.new ≡ code_view code.old ⨾ lowered.called_for t ty.now call) }
 {
     match ty {
         Ty::Void => code.push(CStmt::Call(call)),
@@ -278,11 +320,11 @@ pub fn call_function(
     atoms: Items<CAtom>,
 ) -> Result<Ty, AllocError>
     ensures code { OnOk result (code_view code.new ≡ code_view code.old ⨾ lowered.called_for t (valid.result_of_function (slice_get (map function_view scope.now.functions.now) function)) (call.Named (named_in scope.now function) atoms)) }
-    ensures value { IfOk result (λ type. type ≡ valid.result_of_function (slice_get (map function_view scope.now.functions.now) function)) }
+    ensures value { IfOk result (λ found. found ≡ valid.result_of_function (slice_get (map function_view scope.now.functions.now) function)) }
 {
     let ty = scope.result_of(function);
     let name = callee(alloc, scope, function)?;
-    call_for(alloc, code, t, ty, CCall::Named(name, atoms))?;
+    call_for(alloc, code, t, &ty, CCall::Named(name, atoms))?;
     Ok(ty)
 }
 
@@ -295,7 +337,7 @@ pub fn call_builtin(
     atoms: Items<CAtom>,
 ) -> Result<Ty, AllocError>
     ensures code { OnOk result (code_view code.new ≡ code_view code.old ⨾ lowered.called_for t (valid.type_answered builtin) (call.Named (lowered.builtin_name builtin) atoms)) }
-    ensures value { IfOk result (λ type. type ≡ valid.type_answered builtin) }
+    ensures value { IfOk result (λ found. found ≡ valid.type_answered builtin) }
 {
     let name = match builtin {
         Builtin::Put => Text::from_str(alloc, "mm_put")?,
@@ -303,7 +345,7 @@ pub fn call_builtin(
         Builtin::More => Text::from_str(alloc, "mm_more")?,
     };
     let ty = type_of_builtin(builtin);
-    call_for(alloc, code, t, ty, CCall::Named(name, atoms))?;
+    call_for(alloc, code, t, &ty, CCall::Named(name, atoms))?;
     Ok(ty)
 }
 
@@ -356,7 +398,7 @@ pub fn step_local(
 ) -> Result<Ty, AllocError>
     requires { t + 2 < 2 ^ 32 }
     ensures code { OnOk result (code_view code.new ≡ code_view code.old ⨾ lowered.step_code t local change (type_at scope.now.locals.now local)) }
-    ensures value { IfOk result (λ type. type ≡ type_at scope.now.locals.now local) }
+    ensures value { IfOk result (λ found. found ≡ type_at scope.now.locals.now local) }
 {
     let ty = scope.type_at(local);
     let name = Name::Local(local);
@@ -364,7 +406,7 @@ pub fn step_local(
         Change::Up => (COperator::Add, plain(GREATEST)),
         Change::Down => (COperator::Subtract, CAtom::Least),
     };
-    match ty {
+    match &ty {
         Ty::Unsigned => step_word(alloc, code, t, name, by)?,
         Ty::Void | Ty::Bool | Ty::Int | Ty::Ptr(_) | Ty::Ref(_) => {
             step_int(alloc, code, t, name, by, end)?;

@@ -12,8 +12,8 @@ use mm_classes::class::Ty;
 use mm_core::part::{Operator, Target};
 
 /// The kind of the names that hold a type's values.
-pub fn kind_of(ty: Ty) -> CKind
-    ensures { result ≡ agree.kind_of ty }
+pub fn kind_of(ty: &Ty) -> CKind
+    ensures { result ≡ agree.kind_of ty.now }
 {
     match ty {
         Ty::Void | Ty::Bool | Ty::Int => CKind::Int,
@@ -23,18 +23,18 @@ pub fn kind_of(ty: Ty) -> CKind
 }
 
 /// The pointer type in place of a reference.
-pub fn as_pointer(ty: Ty) -> Ty
-    ensures { result ≡ valid.as_pointer ty }
+pub fn as_pointer(ty: &Ty) -> Ty
+    ensures { result ≡ valid.as_pointer ty.now }
 {
     match ty {
-        Ty::Ref(class) => Ty::Ptr(class),
-        Ty::Void | Ty::Bool | Ty::Int | Ty::Unsigned | Ty::Ptr(_) => ty,
+        Ty::Ref(class) => Ty::Ptr(*class),
+        Ty::Void | Ty::Bool | Ty::Int | Ty::Unsigned | Ty::Ptr(_) => *ty,
     }
 }
 
 /// The number of a type: no two types have one.
-fn type_code(ty: Ty) -> u64
-    ensures { result ≡ heads.type_code ty }
+fn type_code(ty: &Ty) -> u64
+    ensures { result ≡ heads.type_code ty.now }
 {
     match ty {
         Ty::Void => 0,
@@ -47,21 +47,21 @@ fn type_code(ty: Ty) -> u64
 }
 
 /// Whether two types are one.
-pub fn is_same(left: Ty, right: Ty) -> bool
-    ensures { result ≡ heads.same_type left right }
+pub fn is_same(left: &Ty, right: &Ty) -> bool
+    ensures { result ≡ heads.same_type left.now right.now }
 {
     type_code(left) == type_code(right)
 }
 
 /// The type of a choice between two values.
-pub fn branch_type(first: Ty, second: Ty) -> Ty
-    ensures { result ≡ if heads.same_type first second then first else valid.as_pointer first }
+pub fn branch_type(first: &Ty, second: &Ty) -> Ty
+    ensures { result ≡ if heads.same_type first.now second.now then first.now else valid.as_pointer first.now }
 {
-    let pointer = as_pointer(first);
     if is_same(first, second) {
-        return first;
+        *first
+    } else {
+        as_pointer(first)
     }
-    pointer
 }
 
 /// Whether the value of an operator is a `bool`.
@@ -84,10 +84,10 @@ pub fn compares(operator: Operator) -> bool
 }
 
 /// The type of an operator's value, by that of its operands.
-pub fn operator_type(operator: Operator, operand: Ty) -> Ty
-    ensures { result ≡ if valid.compares operator then ty.Bool else operand }
+pub fn operator_type(operator: Operator, operand: &Ty) -> Ty
+    ensures { result ≡ if valid.compares operator then ty.Bool else operand.now }
 {
-    if compares(operator) { Ty::Bool } else { operand }
+    if compares(operator) { Ty::Bool } else { *operand }
 }
 
 /// The type that a conversion gives.
