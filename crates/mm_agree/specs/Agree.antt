@@ -31,11 +31,14 @@ abbrev pub stop_in_c : source.Stop → c.Stop
 stop_in_c (source.Trapped t) = c.Trapped (code_of t)
 stop_in_c source.Spent = c.Spent
 
--- Both runs give results, in states as `Post` says and with one clock left, or both stop in one way, in states as
--- `Ends` says.
-pub data Agree {S A T B : Type 0} (Ends : S → T → Type 0) (Post : A → S → B → T → Type 0) : Run source.Stop S A → Run c.Stop T B → Type 0 where
-  both_give : {a : A} {s : S} {b : B} {t : T} {k : ℕ} → Post a s b t → Agree Ends Post (Gives a s k) (Gives b t k)
-  both_stop : {x : source.Stop} {s : S} {t : T} → Ends s t → Agree Ends Post (Stops x s) (Stops (stop_in_c x) t)
+-- Both runs give results, in states as `Post` says and with one clock left, or both stop in one
+-- way, in states as `Ends` says.
+pub data Agree {S A T B : Type 0} (Ends : S → T → Type 0) (Post : A → S → B → T →
+    Type 0) : Run source.Stop S A → Run c.Stop T B → Type 0 where
+  both_give : {a : A} {s : S} {b : B} {t : T} {k : ℕ} → Post a s b t →
+      Agree Ends Post (Gives a s k) (Gives b t k)
+  both_stop : {x : source.Stop} {s : S} {t : T} → Ends s t →
+      Agree Ends Post (Stops x s) (Stops (stop_in_c x) t)
 
 -- ---- values
 
@@ -65,7 +68,8 @@ cell_of ty.Unsigned = cell.Unsigned
 cell_of (ty.Ptr d) = cell.Pointer
 cell_of (ty.Ref d) = cell.Pointer
 
--- The value of C that stands for a value: a pointer is the object's block and the subobject's offset in it.
+-- The value of C that stands for a value: a pointer is the object's block and the subobject's
+-- offset in it.
 abbrev pub in_c : Layout → List Object → Value → CValue
 in_c l objects (Truth b) = holds.Int (bit_of b)
 in_c l objects (Number z) = holds.Int z
@@ -98,15 +102,19 @@ Stands objects Nothing = Unit {0}
 -- ---- states
 
 module _ (g : List Class) (l : Layout) where
-  -- An object's block. One field for each sort of cell: what else stands in it is a further field here.
+  -- An object's block. One field for each sort of cell: what else stands in it is a further field
+  -- here.
   pub record IsBlock (objects : List Object) (x : Object) (b : Block) : Type 0 where
     pub size : b.size ≡ l.size x.class
-    pub cell : (t : Path) (f : ℕ) → IsSubobject g x.class t → IsFieldOf g (end_of t) f → load_in (cell_of (field_type g (end_of t) f)) (l.offset x.class t + l.member (end_of t) f) (Some b) ≡ Some (in_c l objects (x.fields t f))
+    pub cell : (t : Path) (f : ℕ) → IsSubobject g x.class t → IsFieldOf g (end_of t) f →
+        load_in (cell_of (field_type g (end_of t) f)) (l.offset x.class t + l.member (end_of t) f)
+        (Some b) ≡ Some (in_c l objects (x.fields t f))
 
   -- object o is block o
   pub record Heaps (objects : List Object) (memory : List Block) : Type 0 where
     pub lengths : length memory ≡ length objects
-    pub each : (o : ℕ) → o < length objects → (b : Block) × (slice_get memory o ≡ Some b) × IsBlock objects (object_at objects o) b
+    pub each : (o : ℕ) → o < length objects → (b : Block) × (slice_get memory o ≡ Some b) ×
+        IsBlock objects (object_at objects o) b
 
   pub record States (s : source.State) (u : c.State) : Type 0 where
     pub world : s.world ≡ u.world
@@ -119,16 +127,24 @@ OneWorld s u = s.world ≡ u.world
 
 module _ (g : List Class) (l : Layout) where
   -- a result of a call and the one of the C call
-  pub record SameResult (type : Ty) (v : Value) (s : source.State) (r : Option CValue) (u : c.State) : Type 0 where
+  pub record SameResult (type : Ty) (v : Value) (s : source.State) (r : Option CValue)
+      (u : c.State) : Type 0 where
     pub value : r ≡ result_in_c type (in_c l s.objects v)
     pub states : States g l s u
 
-  abbrev pub Alike : Ty → Run source.Stop source.State Value → Run c.Stop c.State (Option CValue) → Type 0
+  abbrev pub Alike : Ty → Run source.Stop source.State Value → Run c.Stop c.State (Option CValue) →
+      Type 0
   Alike type = Agree OneWorld (SameResult type)
 
--- The C functions keep the correspondence: each does, on values of its types, what the function of the source does,
-pub record CallsAgree (p : Program) (l : Layout) (callable : Function → Bool) (name : ℕ → List ℕ) (When : ℕ → Type 0) (calls : Calls) (around : Around) : Type 0 where
-  pub by : (n : ℕ) (f : Function) (vs : List Value) (s : source.State) (u : c.State) (k : ℕ) → When k → slice_get p.functions n ≡ Some f → is_open f ≡ false → IsTrue (callable f) → AllFit p.classes s.objects (argument_types p.classes f) vs → IsState p.classes s → States p.classes l s u → Alike p.classes l f.result (calls n vs s k) (around.call (name n) (all_in_c l s.objects vs) u k)
+-- The C functions keep the correspondence: each does, on values of its types, what the function of
+-- the source does,
+pub record CallsAgree (p : Program) (l : Layout) (callable : Function → Bool) (name : ℕ → List ℕ)
+    (When : ℕ → Type 0) (calls : Calls) (around : Around) : Type 0 where
+  pub by : (n : ℕ) (f : Function) (vs : List Value) (s : source.State) (u : c.State) (k : ℕ) →
+      When k → slice_get p.functions n ≡ Some f → is_open f ≡ false → IsTrue (callable f) →
+      AllFit p.classes s.objects (argument_types p.classes f) vs → IsState p.classes s →
+      States p.classes l s u → Alike p.classes l f.result (calls n vs s k)
+      (around.call (name n) (all_in_c l s.objects vs) u k)
 
 -- What the names of the prelude call.
 pub record HasPrelude (around : Around) : Type 0 where

@@ -23,8 +23,10 @@ outcome_in_c o = record { finish = finish_in_c o.finish; put = o.put }
 abbrev pub IsInput : List ℤ → Type 0
 IsInput input = (z : ℤ) → Has input z → IsTrue (is_int z)
 
--- For every input and every bound on the steps, the C program ends, traps or goes on as the source does, with the
--- same number and the same numbers put; and it is never stuck.
+-- For every input and every bound on the steps, the C program ends, traps or goes on as the source
+-- does, with the same number and the same numbers put; and it is never stuck.
 pub record Translates (p : source.Program) (q : c.Program) : Type 0 where
-  pub agrees : (input : List ℤ) (n : ℕ) → IsInput input → c_run q input n ≡ outcome_in_c (source_run p input n)
-  pub never_stuck : (input : List ℤ) (n : ℕ) → IsInput input → (c_run q input n).finish ≢ run.IsStuck
+  pub agrees : (input : List ℤ) (n : ℕ) → IsInput input →
+      c_run q input n ≡ outcome_in_c (source_run p input n)
+  pub never_stuck : (input : List ℤ) (n : ℕ) → IsInput input →
+      (c_run q input n).finish ≢ run.IsStuck

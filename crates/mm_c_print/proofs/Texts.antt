@@ -1,17 +1,20 @@
 -- The text of tokens, one part after another.
-use Rattle.std.proofs.Common.{◌≡◌, ℕ, ◌+◌, ◌<◌, List, [], ◌∷◌, ◌++◌, length, take, get_or, map, flat_map, refl, sym, ap, ◌∙◌, append_assoc, append-nil, subst}
+use Rattle.std.proofs.Common.{◌≡◌, ℕ, ◌+◌, ◌<◌, ◌^◌, List, [], ◌∷◌, ◌++◌, length, take, get_or, map, flat_map, refl, sym, ap, ◌∙◌, subst, append_assoc, append-nil}
 use Rattle.std.proofs.lemmas.Grind.{flat_map-append}
 use Rattle.std.proofs.lemmas.List.{take_more, map-append}
+use Rattle.std.specs.Prelude.{true}
 use Rattle.mm_c.specs.Tree.{Code, done, do_then, ◌⨾◌, just, Program}
-use Rattle.mm_c.specs.View.{atom_view, stmt_view, code_view, function_view}
-use Rattle.mm_c.specs.Printing.{written, text_of}
-use Rattle.mm_c.specs.Spelling.{next_atom, stmt_tokens, code_tokens, function_tokens, prelude_tokens, program_tokens, SpellsProgram}
-use Rattle.mm_c.specs.WellFormed.{IsWellFormed}
-use Rattle.mm_c.proofs.Spelled.{written_is_spelled}
-use Rattle.mm_c.specs.declared.tree.CAtom.{CAtom}
+use Rattle.mm_c.specs.View.{stmt_view, code_view, item_view}
+use Rattle.mm_c.specs.WellFormed.{well_formed}
+use Rattle.mm_c.specs.Spelling.{SpellsProgram}
+use Rattle.mm_c.proofs.Printed.{written_is_spelled}
+use Rattle.std.specs.Fmt.{decimal}
+use Rattle.mm_c.specs.Printing.{Words, written, separator, text_of, number_text, suffix, next_of, stmt_tokens, code_tokens, item_tokens, prelude_tokens, program_tokens}
+use Rattle.mm_c.specs.declared.tree.CItem.{CItem}
+use Rattle.mm_c.specs.declared.tree.CNumber.{CNumber}
 use Rattle.mm_c.specs.declared.tree.CStmt.{CStmt}
-use Rattle.mm_c.specs.declared.tree.CFunction.{CFunction}
-use Rattle.mm_c.proofs.Views.{code_view-push, view-Assign, view-Call, view-If, view-IfElse, view-Return, view-block}
+use Rattle.mm_c.proofs.Numerals.{number_separator}
+use Rattle.mm_c.proofs.Views.{code_view-push, view-Assign, view-Store, view-Call, view-If, view-IfElse, view-While, view-Break, view-Continue, view-Return, view-ReturnValue, view-block}
 
 pub text_of-append : (a b : List (List ℕ)) → text_of (a ++ b) ≡ text_of a ++ text_of b
 text_of-append a b = flat_map-append written a b
@@ -37,29 +40,39 @@ wrote_code ss i d start old new h at before now =
     ∙ ap (λ l. start ++ l) (sym (text_of-append (code_tokens (code_view (take i ss))) (stmt_tokens (stmt_view (get_or ss i d)))))
     ∙ ap (λ l. start ++ text_of l) (sym (code_tokens_more ss i d h))
 
--- the prelude, and then the functions
-pub after_prelude : (fs : List CFunction) (start old new : List ℕ) → old ≡ start ++ text_of prelude_tokens → new ≡ old ++ text_of (flat_map function_tokens (map function_view fs)) → new ≡ start ++ text_of (prelude_tokens ++ flat_map function_tokens (map function_view fs))
-after_prelude fs start old new before now =
-    now ∙ ap (λ l. l ++ text_of (flat_map function_tokens (map function_view fs))) before
-    ∙ append_assoc start (text_of prelude_tokens) (text_of (flat_map function_tokens (map function_view fs)))
-    ∙ ap (λ l. start ++ l) (sym (text_of-append prelude_tokens (flat_map function_tokens (map function_view fs))))
+module _ {A : Type 0} where
+  -- one more of what is joined by commas
+  pub joined_more : (f : A → Words) (xs : List A) (i : ℕ) (d : A) → i < length xs → flat_map (next_of f) (take (i + 1) xs) ≡ flat_map (next_of f) (take i xs) ++ next_of f (get_or xs i d)
+  joined_more f xs i d h =
+      ap (flat_map (next_of f)) (take_more xs i d h)
+      ∙ flat_map-append (next_of f) (take i xs) (get_or xs i d ∷ [])
+      ∙ ap (λ l. flat_map (next_of f) (take i xs) ++ l) (append-nil (next_of f (get_or xs i d)))
+
+pub items_more : (is : List CItem) (i : ℕ) (d : CItem) → i < length is → flat_map item_tokens (map item_view (take (i + 1) is)) ≡ flat_map item_tokens (map item_view (take i is)) ++ item_tokens (item_view (get_or is i d))
+items_more is i d h =
+    ap (λ l. flat_map item_tokens (map item_view l)) (take_more is i d h)
+    ∙ ap (flat_map item_tokens) (map-append item_view (take i is) (get_or is i d ∷ []))
+    ∙ flat_map-append item_tokens (map item_view (take i is)) (item_view (get_or is i d) ∷ [])
+    ∙ ap (λ l. flat_map item_tokens (map item_view (take i is)) ++ l) (append-nil (item_tokens (item_view (get_or is i d))))
+
+-- the prelude, and then the items
+pub after_prelude : (is : List CItem) (start old new : List ℕ) → old ≡ start ++ text_of prelude_tokens → new ≡ old ++ text_of (flat_map item_tokens (map item_view is)) → new ≡ start ++ text_of (prelude_tokens ++ flat_map item_tokens (map item_view is))
+after_prelude is start old new before now =
+    now ∙ ap (λ l. l ++ text_of (flat_map item_tokens (map item_view is))) before
+    ∙ append_assoc start (text_of prelude_tokens) (text_of (flat_map item_tokens (map item_view is)))
+    ∙ ap (λ l. start ++ l) (sym (text_of-append prelude_tokens (flat_map item_tokens (map item_view is))))
 
 -- a text in the layout of a well-formed program spells it
-pub spells_as : (text : List ℕ) (p : Program) → IsWellFormed p → text ≡ text_of (program_tokens p) → SpellsProgram text p
-spells_as text p w e = let P : List ℕ → Type 0 = λ t. SpellsProgram t p in subst P (sym e) (written_is_spelled p w)
+pub spells_as : (text : List ℕ) (p : Program) → well_formed p ≡ true → text ≡ text_of (program_tokens p) → SpellsProgram text p
+spells_as text p w e = subst (λ t. SpellsProgram t p) (sym e) (written_is_spelled p w)
 
-pub atoms_more : (atoms : List CAtom) (i : ℕ) (d : CAtom) → i < length atoms → flat_map next_atom (map atom_view (take (i + 1) atoms)) ≡ flat_map next_atom (map atom_view (take i atoms)) ++ next_atom (atom_view (get_or atoms i d))
-atoms_more atoms i d h =
-    ap (λ l. flat_map next_atom (map atom_view l)) (take_more atoms i d h)
-    ∙ ap (flat_map next_atom) (map-append atom_view (take i atoms) (get_or atoms i d ∷ []))
-    ∙ flat_map-append next_atom (map atom_view (take i atoms)) (atom_view (get_or atoms i d) ∷ [])
-    ∙ ap (λ l. flat_map next_atom (map atom_view (take i atoms)) ++ l) (append-nil (next_atom (atom_view (get_or atoms i d))))
+pub number_end : (n : CNumber) → n.value < 2 ^ 32 → separator (number_text n) ≡ 32
+number_end n h = number_separator n h
 
-pub functions_more : (fs : List CFunction) (i : ℕ) (d : CFunction) → i < length fs → flat_map function_tokens (map function_view (take (i + 1) fs)) ≡ flat_map function_tokens (map function_view (take i fs)) ++ function_tokens (function_view (get_or fs i d))
-functions_more fs i d h =
-    ap (λ l. flat_map function_tokens (map function_view l)) (take_more fs i d h)
-    ∙ ap (flat_map function_tokens) (map-append function_view (take i fs) (get_or fs i d ∷ []))
-    ∙ flat_map-append function_tokens (map function_view (take i fs)) (function_view (get_or fs i d) ∷ [])
-    ∙ ap (λ l. flat_map function_tokens (map function_view (take i fs)) ++ l) (append-nil (function_tokens (function_view (get_or fs i d))))
+-- a number: its digits, its suffix and a blank
+pub number_whole : (n : CNumber) (start a b z d s : List ℕ) → n.value < 2 ^ 32 → a ≡ start ++ d → d ≡ decimal n.value → b ≡ a ++ s → s ≡ suffix n.is_unsigned → z ≡ b ++ 32 ∷ [] → z ≡ start ++ written (number_text n)
+number_whole n start a b z d s small e f g h k =
+    k ∙ ap (λ l. l ++ 32 ∷ []) (g ∙ (λ i. e i ++ h i) ∙ (λ i. (start ++ f i) ++ suffix n.is_unsigned) ∙ append_assoc start (decimal n.value) (suffix n.is_unsigned))
+    ∙ append_assoc start (number_text n) (32 ∷ []) ∙ ap (λ x. start ++ (number_text n ++ x ∷ [])) (sym (number_separator n small))
 
-pub ruleset text_rules = (text_of-append, code_tokens_more, atoms_more, functions_more, view-Assign, view-Call, view-If, view-IfElse, view-Return, view-block)
+pub ruleset text_rules = (text_of-append, code_tokens_more, joined_more, items_more, number_end, view-Assign, view-Store, view-Call, view-If, view-IfElse, view-While, view-Break, view-Continue, view-Return, view-ReturnValue, view-block)

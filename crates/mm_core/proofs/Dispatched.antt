@@ -4,9 +4,9 @@ use Rattle.std.specs.Prelude.{ℤ, pos, true, false, codes}
 use Rattle.mm_classes.specs.declared.class.Ty.{Ty}
 use Rattle.mm_classes.specs.declared.class.Ty.TheVariants as ty
 use Rattle.mm_classes.specs.Classes.{Class}
-use Rattle.mm_core.specs.declared.part.Operator.TheVariants.{Equal}
+use Rattle.mm_core.specs.declared.part.Operator.TheVariants.{Add, Equal}
 use Rattle.mm_core.specs.declared.part.Target.TheVariants as target
-use Rattle.mm_core.specs.Tree.{Expr, int, null, local, set_local, field, set_field, not_null, move, convert, binary, virtual_call, open_call, Stmt, run, return, make, Function, Program}
+use Rattle.mm_core.specs.Tree.{Expr, int, null, local, set_local, field, set_field, not_null, move, convert, binary, compound, virtual_call, open_call, Stmt, run, return, make, Function, Program}
 use Rattle.mm_core.specs.Run.{Outcome, Ended, TrappedBy, source_run}
 use Rattle.mm_core.proofs.Written.{args, put, named, main_of, method_of, virt, gives, to, to_shared, class, destructor, data_field, method}
 
@@ -19,7 +19,7 @@ ended zs z = record { finish = Ended z; put = zs }
 abbrev pub f : List ℕ
 f = codes "f"
 
--- TEXT F: class A { virtual ~A() {} }; class B : A
+-- class A { virtual ~A() {} }; class B : A
 abbrev pub a : List Class
 a = class (codes "A") [] (destructor (codes "A") ∷ []) ∷ []
 
@@ -47,7 +47,7 @@ covariant = record { classes = b ++ class (codes "R") [] (data_field (codes "n")
 results_decide : source_run covariant [] 10 ≡ ended (pos 2 ∷ []) (pos 0)
 results_decide = refl
 
--- TEXT G: class A { virtual ~A() {} }; class B : A; class C : A; class D : B, C { int k; }
+-- class A { virtual ~A() {} }; class B : A; class C : A; class D : B, C { int k; }
 abbrev g : List Class
 g = b ++ class (codes "C") (to 0 ∷ []) [] ∷ class (codes "D") (to 1 ∷ to 2 ∷ []) (data_field (codes "k") ty.Int ∷ []) ∷ []
 
@@ -77,7 +77,7 @@ diamond = a ++ class (codes "B") (to_shared 0 ∷ []) [] ∷ class (codes "C") (
 crosses : source_run (record { classes = diamond; functions = one 0 (pos 1) ∷ named f ty.Int (virt (ty.Ref 2) ∷ []) [] (put (field 0 (local 0)) ∷ return (int (pos 2)) ∷ []) ∷ main_of (ty.Ref 3 ∷ ty.Ref 1 ∷ ty.Ref 0 ∷ []) (make 0 ∷ run (set_field 0 (move 3 2 (local 0)) (int (pos 9))) ∷ run (set_local 1 (move 3 1 (local 0))) ∷ run (set_local 2 (move 1 1 (local 1))) ∷ put (open_call 0 (args (local 2 ∷ []))) ∷ return zero ∷ []) ∷ [] }) [] 10 ≡ ended (pos 9 ∷ pos 2 ∷ []) (pos 0)
 crosses = refl
 
--- D d; B* b = &d; C* c = &d; A* x = b; A* y = c; mm_put(x == y); return 0; over text G's classes
+-- D d; B* b = &d; C* c = &d; A* x = b; A* y = c; mm_put(x == y); return 0; over the classes above
 differ : source_run (record { classes = g; functions = main_of (ty.Ref 3 ∷ ty.Ptr 1 ∷ ty.Ptr 2 ∷ ty.Ptr 0 ∷ ty.Ptr 0 ∷ []) (make 0 ∷ run (set_local 1 (move 3 1 (local 0))) ∷ run (set_local 2 (move 3 3 (local 0))) ∷ run (set_local 3 (move 1 1 (local 1))) ∷ run (set_local 4 (move 2 1 (local 2))) ∷ put (convert target.Int (binary Equal (local 3) (local 4))) ∷ return zero ∷ []) ∷ [] }) [] 10 ≡ ended (pos 0 ∷ []) (pos 0)
 differ = refl
 
@@ -117,3 +117,11 @@ null_moves = refl
 -- B b; b.n = 9; A& a = b; mm_put(a.f()); return 0; `this` is the final overrider's subobject
 this_moves : source_run (record { classes = class (codes "A") [] (method f [] ty.Int true ∷ []) ∷ class (codes "B") (to 0 ∷ []) (data_field (codes "n") ty.Int ∷ method f [] ty.Int false ∷ []) ∷ []; functions = method_of (codes "A::f") ty.Int [] (return (int (pos 1)) ∷ []) ∷ method_of (codes "B::f") ty.Int [] (return (field 0 (local 0)) ∷ []) ∷ main_of (ty.Ref 1 ∷ ty.Ref 0 ∷ []) (make 0 ∷ run (set_field 0 (local 0) (int (pos 9))) ∷ run (set_local 1 (move 1 1 (local 0))) ∷ put (virtual_call 0 (local 1) (args [])) ∷ return zero ∷ []) ∷ [] }) [] 10 ≡ ended (pos 9 ∷ []) (pos 0)
 this_moves = refl
+
+-- class A { int n; }; A a; a.n = 3; mm_put(a.n += (a.n = 10)); return 0; the old value is read before the right side runs
+old_value_first : source_run (record { classes = class (codes "A") [] (data_field (codes "n") ty.Int ∷ []) ∷ []; functions = main_of (ty.Ref 0 ∷ []) (make 0 ∷ run (set_field 0 (local 0) (int (pos 3))) ∷ put (compound Add 0 (local 0) (set_field 0 (local 0) (int (pos 10)))) ∷ return zero ∷ []) ∷ [] }) [] 10 ≡ ended (pos 13 ∷ []) (pos 0)
+old_value_first = refl
+
+-- class A { int n; }; A a; and a move to a subobject that no class has, which no valid tree has
+no_subobject : source_run (record { classes = class (codes "A") [] (data_field (codes "n") ty.Int ∷ []) ∷ []; functions = main_of (ty.Ref 0 ∷ []) (make 0 ∷ run (move 0 7 (local 0)) ∷ return zero ∷ []) ∷ [] }) [] 10 ≡ record { finish = TrappedBy 5; put = [] }
+no_subobject = refl

@@ -12,6 +12,12 @@ pub mod Scalars
 pub mod Heap
 pub mod Sound
 pub mod SoundCalls
+pub mod Returning
+pub mod Entering
+pub mod Opening
+pub mod Aligned
+pub mod Opened
+pub mod Whole
 pub mod Sets
 pub mod Overriding
 pub mod Longer

@@ -5,7 +5,7 @@ use Rattle.mm_classes.specs.declared.class.Ty.TheVariants as ty
 use Rattle.mm_core.specs.declared.part.Operator.TheVariants.{Add, Subtract, Multiply, Divide, Remainder, Less, Equal}
 use Rattle.mm_core.specs.declared.part.Target.TheVariants as target
 use Rattle.mm_core.specs.declared.part.Change.TheVariants.{Up}
-use Rattle.mm_core.specs.Tree.{Expr, int, unsigned, bool, local, set_local, convert, binary, call, step_local, block, run, if_else, while_do, do_while, for_do, continue, return, no_stmts, Function, Program}
+use Rattle.mm_core.specs.Tree.{Expr, int, unsigned, bool, local, set_local, convert, binary, call, step_local, block, run, if_else, while_do, do_while, for_do, break, continue, return, no_stmts, Function, Program}
 use Rattle.mm_core.specs.Run.{Outcome, Ended, TrappedBy, GoesOn, source_run}
 use Rattle.mm_core.proofs.Written.{args, stmts, put, get, named, main_of, plain, gives}
 
@@ -81,6 +81,26 @@ counts_at_4 = refl
 
 counts_at_5 : source_run counts [] 5 ≡ ended (pos 0 ∷ pos 2 ∷ []) (pos 0)
 counts_at_5 = refl
+
+-- The step of a `for` may be a block where no text was: for (;; { break; }) mm_put(1); the step leaves the loop in the second turn
+abbrev breaks_in_step : Program
+breaks_in_step = of (main_of [] (for_do (bool true) (block (stmts (break ∷ []))) (stmts (put (int (pos 1)) ∷ [])) ∷ []) ∷ [])
+
+breaks_at_2 : source_run breaks_in_step [] 2 ≡ goes_on (pos 1 ∷ [])
+breaks_at_2 = refl
+
+breaks_at_3 : source_run breaks_in_step [] 3 ≡ ended (pos 1 ∷ []) (pos 0)
+breaks_at_3 = refl
+
+-- int i = 0; for (; i < 2; { i++; continue; mm_put(9); }) mm_put(i); each `continue` of the step ends a turn: five turns
+abbrev continues_in_step : Program
+continues_in_step = of (main_of (ty.Int ∷ []) (for_do (binary Less (local 0) (int (pos 2))) (block (stmts (run (step_local 0 Up) ∷ continue ∷ put (int (pos 9)) ∷ []))) (stmts (put (local 0) ∷ [])) ∷ []) ∷ [])
+
+continues_at_5 : source_run continues_in_step [] 5 ≡ goes_on (pos 0 ∷ pos 1 ∷ [])
+continues_at_5 = refl
+
+continues_at_6 : source_run continues_in_step [] 6 ≡ ended (pos 0 ∷ pos 1 ∷ []) (pos 0)
+continues_at_6 = refl
 
 -- int f(int n) { if (n == 0) return 0; return f(n - 1); } int main() { return f(20); }
 abbrev recursive : ℤ → Program

@@ -107,7 +107,7 @@ module _ (g : List Class) (ok : IsClassList g) where
     (λ h. any-has (λ q. bytes_eq (compose t q) s) (subobjects_of g (end_of t)) h.0 (are_subobjects g ok (end_of t) h.0 h.1) ((bytes_eq-Decides (compose t h.0) s).1 h.2)),
   )
 
-  in_ups : (c b : ℕ) (q : Path) → Has (ups g c b) q ↔ IsWay g c b q
+  pub in_ups : (c b : ℕ) (q : Path) → Has (ups g c b) q ↔ IsWay g c b q
   in_ups c b q = (
     (λ h. let r = filter-from (λ q. nat_eq (end_of q) b) (subobjects_of g c) q h in (subobjects_are g ok c q r.0, eqb-true (end_of q) b r.1)),
     (λ h. filter-has (λ q. nat_eq (end_of q) b) (subobjects_of g c) q (are_subobjects g ok c q h.0) (eq-eqb (end_of q) b h.1)),
@@ -116,7 +116,7 @@ module _ (g : List Class) (ok : IsClassList g) where
   ups-Distinct : (c b : ℕ) → Distinct (ups g c b)
   ups-Distinct c b = filter-Distinct (λ q. nat_eq (end_of q) b) (subobjects_of g c) (subobjects-Distinct g ok c)
 
-  in_arounds : (d : ℕ) (s : Path) (c : ℕ) (t : Path) → Has (arounds g d s c) t ↔ IsAround g d s c t
+  pub in_arounds : (d : ℕ) (s : Path) (c : ℕ) (t : Path) → Has (arounds g d s c) t ↔ IsAround g d s c t
   in_arounds d s c t = (
     (λ h. let r = filter-from (λ u. contains g u s) (ups g d c) t h in let k = (in_ups d c t).0 r.0 in (k.0, k.1, (contains-Within t s).0 r.1)),
     (λ h. filter-has (λ u. contains g u s) (ups g d c) t ((in_ups d c t).1 (h.0, h.1)) ((contains-Within t s).1 h.2)),
@@ -178,7 +178,7 @@ module _ (g : List Class) (ok : IsClassList g) where
   some_has [] e = cc
   some_has (x ∷ xs) e = (x, first refl)
 
-  has_some : (xs : List Path) (x : Path) → Has xs x → is_some_of xs ≡ true
+  pub has_some : (xs : List Path) (x : Path) → Has xs x → is_some_of xs ≡ true
   has_some [] x h = elim h [ ]
   has_some (y ∷ ys) x h = refl
 

@@ -13,24 +13,22 @@ use Rattle.mm_meaning.specs.Run as runs
 use Rattle.mm_meaning.specs.Run.{Run, Gives, Stops, within}
 use Rattle.mm_classes.specs.declared.class.Ty.{Ty}
 use Rattle.mm_classes.specs.declared.class.Ty.TheVariants as ty
-use Rattle.mm_classes.specs.declared.class.Member.{Member}
 use Rattle.mm_classes.specs.Lists.{Has, first, later}
-use Rattle.mm_classes.specs.Classes.{Class, IsClassList, members_of}
+use Rattle.mm_classes.specs.Classes.{Class, members_of}
 use Rattle.mm_classes.specs.Subobjects.{Path, IsSubobject, end_of, compose, subobjects_of}
 use Rattle.mm_classes.specs.Questions.{node, IsNode}
 use Rattle.mm_classes.proofs.Subs.{subobjects_are}
 use Rattle.mm_classes.proofs.Answering.{Has-get_or}
 use Rattle.mm_classes.proofs.Compose.{compose-sub, compose-end}
-use Rattle.mm_core.specs.Tree.{Expr, int, unsigned, bool, null, local, set_local, field, set_field, not_null, move, convert, binary, negation, both, either, choose, call, virtual_call, open_call, builtin, new, step_local, step_field, compound, Exprs, no_exprs, expr_and, Function, Program, Stmt, block, run, if_else, while_do, do_while, for_do, break, continue, return_nothing, return, make, Stmts, no_stmts, stmt_and}
-use Rattle.mm_core.specs.Heads.{class_in, class_shown, is_reference, field_type, params_in, result_in, argument_types, type_at, is_open, same_type, type_code}
+use Rattle.mm_core.specs.Tree.{Expr, int, unsigned, bool, null, local, set_local, field, set_field, not_null, move, convert, binary, negation, both, either, choose, call, virtual_call, open_call, builtin, new, step_local, step_field, compound, Exprs, no_exprs, expr_and, Program, Stmt, block, run, if_else, while_do, do_while, for_do, break, continue, return_nothing, return, make, Stmts, no_stmts, stmt_and}
+use Rattle.mm_core.specs.Heads.{class_in, class_shown, is_reference, field_type, params_in, result_in, argument_types, type_at, same_type, type_code}
 use Rattle.mm_core.specs.State.{Value, Truth, Number, Word, Null, At, Nothing, Object, State, Store, Locals, with_local, class_of, Stop, From, Operation, settled, or_trap, on_some}
 use Rattle.mm_core.specs.Scalar.{is_true, operate, changed, compounded, converted}
 use Rattle.mm_core.specs.Objects.{make_object, make_variable, get_field, put_field}
 use Rattle.mm_core.specs.Moves.{move_along, move_to, tested_pointer}
-use Rattle.mm_core.specs.Virtual.{Calls, call_virtual}
-use Rattle.mm_core.specs.Open.{call_open}
+use Rattle.mm_core.specs.Virtual.{Calls}
 use Rattle.mm_core.specs.Meaning.{ask, Setting, put_local, does, value_of, values_of, setting_of, answered, Flow, Next, Broke, Continued, Returned, unless_left, next_turn, begun, turns_from, loop, tested, then_flow, flow_of, flows_of}
-use Rattle.mm_core.specs.Valid.{Around, type_of, types_of, shows, AllSuit, IsVirtualMethod, IsValid, AreValid, is_number, type_answered, AreBranches, as_pointer, result_of_function, result_of_method, IsTest, IsValidStmt, AreValidStmts, sets, set_in}
+use Rattle.mm_core.specs.Valid.{Around, type_of, types_of, shows, AllSuit, IsValid, AreValid, is_number, type_answered, AreBranches, as_pointer, result_of_function, result_of_method, IsTest, IsValidStmt, AreValidStmts, sets, set_in}
 use Rattle.mm_core.specs.Fits.{Shows, Fits, AllFit, Grew, IsState}
 use Rattle.mm_core.specs.Keeps.{On, Gave, Frame, Known}
 use Rattle.mm_core.proofs.Scalars.{ResultFits, operate_fits, converted_fits, changed_fits, compounded_fits}

@@ -1,5 +1,6 @@
--- Open-methods: which declarations are viable at a tuple, and which one wins. (After Pirkelbauer, Solodkyy and Stroustrup,
--- "Design and Evaluation of C++ Open Multi-Methods", 2010; the exact rules of viability and of ties are own.)
+-- Open-methods: which declarations are viable at a tuple, and which one wins. (After Pirkelbauer,
+-- Solodkyy and Stroustrup, "Design and Evaluation of C++ Open Multi-Methods", 2010; the exact rules
+-- of viability and of ties are own.)
 use Rattle.std.specs.Prelude.{ℕ, Bool, List, [], ◌∷◌, filter, Option, Some, None}
 use Rattle.std.specs.List.{list_all}
 use Rattle.mm_classes.specs.declared.class.Ty.{Ty}
@@ -29,11 +30,13 @@ parts_at g (row ∷ rows) (c ∷ cs) = arounds g row.class row.part c ∷ parts_
 abbrev pub is_viable : List Class → List Row → Declared → Bool
 is_viable g rows r = list_all is_some_of (parts_at g rows (classes_of r.function))
 
--- The parameters of a declaration at rows: at each position the only subobject of its class that contains the row's.
+-- The parameters of a declaration at rows: at each position the only subobject of its class that
+-- contains the row's.
 abbrev pub parameters_of : List Class → List Row → List ℕ → List (Option Path)
 parameters_of g [] cs = []
 parameters_of g (row ∷ rows) [] = []
-parameters_of g (row ∷ rows) (c ∷ cs) = moved g (to_around c) row.class row.part ∷ parameters_of g rows cs
+parameters_of g (row ∷ rows) (c ∷ cs) =
+    moved g (to_around c) row.class row.part ∷ parameters_of g rows cs
 
 -- ---- the winner
 
@@ -43,7 +46,8 @@ pub data Reason : Type 0 where
   Covariant : Reason
   Order : Reason
 
--- The one result is the other, or both are pointers or both references and there is one way up (10.3/5).
+-- The one result is the other, or both are pointers or both references and there is one way up
+-- (10.3/5).
 abbrev pub is_covariant : List Class → Ty → Ty → Bool
 is_covariant g (ty.Ptr c) (ty.Ptr b) = is_one (ups g c b)
 is_covariant g (ty.Ref c) (ty.Ref b) = is_one (ups g c b)
@@ -51,9 +55,12 @@ is_covariant g r o = same_type r o
 
 -- those whose result is covariant with that of all
 abbrev pub fitting : List Class → List Declared → List Declared → List Declared
-fitting g viable left = filter (λ (r : Declared). list_all (λ (v : Declared). is_covariant g r.function.result v.function.result) viable) left
+fitting g viable left =
+    filter (λ (r : Declared). list_all
+    (λ (v : Declared). is_covariant g r.function.result v.function.result) viable) left
 
--- of several that no viable one overrides: the one whose result fits, else the first of those whose results fit
+-- of several that no viable one overrides: the one whose result fits, else the first of those whose
+-- results fit
 abbrev pub tied : List Class → List Declared → Option (Declared × Reason)
 tied g [] = None
 tied g (r ∷ []) = Some (r, Covariant)

@@ -1,5 +1,5 @@
--- Open-methods: which declaration overrides which, and the families that this makes. (After Pirkelbauer, Solodkyy and
--- Stroustrup, "Design and Evaluation of C++ Open Multi-Methods", 2010.)
+-- Open-methods: which declaration overrides which, and the families that this makes. (After
+-- Pirkelbauer, Solodkyy and Stroustrup, "Design and Evaluation of C++ Open Multi-Methods", 2010.)
 use Rattle.std.specs.Prelude.{ℕ, suc, Bool, true, false, not, ◌&&◌, List, [], ◌∷◌, filter, filter_map, nat_eq, if◌then◌else◌}
 use Rattle.std.specs.Bool.{beq}
 use Rattle.std.specs.List.{list_any}
@@ -19,14 +19,17 @@ virtual_params f = filter (λ (q : CoreParam). q.is_virtual) f.params
 abbrev pub classes_of : Function → List ℕ
 classes_of f = filter_map (λ (q : CoreParam). class_in q.ty) (virtual_params f)
 
--- both references or both pointers, and the class of the one is that of the other or derives from it
+-- both references or both pointers, and the class of the one is that of the other or derives from
+-- it
 abbrev pub type_overrides : List Class → Ty → Ty → Bool
 type_overrides g (ty.Ptr c) (ty.Ptr b) = is_a g c b
 type_overrides g (ty.Ref c) (ty.Ref b) = is_a g c b
 type_overrides g t u = false
 
 abbrev pub param_overrides : List Class → CoreParam → CoreParam → Bool
-param_overrides g q u = beq q.is_virtual u.is_virtual && (if q.is_virtual then type_overrides g q.ty u.ty else same_type q.ty u.ty)
+param_overrides g q u =
+    beq q.is_virtual u.is_virtual &&
+    (if q.is_virtual then type_overrides g q.ty u.ty else same_type q.ty u.ty)
 
 abbrev pub params_override : List Class → List CoreParam → List CoreParam → Bool
 params_override g [] [] = true
@@ -36,7 +39,9 @@ params_override g (q ∷ qs) (u ∷ us) = param_overrides g q u && params_overri
 
 -- r overrides o
 abbrev pub overrides : List Class → Function → Function → Bool
-overrides g r o = bytes_eq r.name o.name && (params_override g r.params o.params && not (same_types (types_of_params r.params) (types_of_params o.params)))
+overrides g r o =
+    bytes_eq r.name o.name && (params_override g r.params o.params &&
+    not (same_types (types_of_params r.params) (types_of_params o.params)))
 
 -- a declaration with its number
 pub record Declared : Type 0 where
@@ -45,7 +50,9 @@ pub record Declared : Type 0 where
 
 abbrev pub opens_from : ℕ → List Function → List Declared
 opens_from n [] = []
-opens_from n (f ∷ fs) = if is_open f then record { number = n; function = f } ∷ opens_from (suc n) fs else opens_from (suc n) fs
+opens_from n (f ∷ fs) =
+    if is_open f then record { number = n; function = f } ∷ opens_from (suc n) fs
+    else opens_from (suc n) fs
 
 -- the open-methods of a program
 abbrev pub opens_of : Program → List Declared
@@ -64,4 +71,5 @@ base_methods g os = filter (λ b. not (list_any (over g b) os)) os
 
 -- a base-method and all that override it
 abbrev pub family_of : List Class → List Declared → Declared → List Declared
-family_of g os b = filter (λ (r : Declared). if nat_eq r.number b.number then true else over g r b) os
+family_of g os b =
+    filter (λ (r : Declared). if nat_eq r.number b.number then true else over g r b) os

@@ -9,7 +9,9 @@ use Rattle.mm_core.specs.Heads.{same_function}
 
 -- the subobjects of d that contain s and declare the function
 abbrev pub overriders : List Class → ℕ → Path → Member → List Path
-overriders g d s m = filter (λ t. contains g t s && list_any (same_function m) (members_of g (end_of t))) (subobjects_of g d)
+overriders g d s m =
+    filter (λ t. contains g t s && list_any (same_function m) (members_of g (end_of t)))
+    (subobjects_of g d)
 
 -- The final overrider: the only one that is contained in no other of them (10.3/2).
 abbrev pub final_of : List Class → ℕ → Path → Member → Option Path

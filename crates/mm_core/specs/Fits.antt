@@ -38,5 +38,7 @@ pub record Grew (before after : List Object) : Type 0 where
 
 -- each field of each subobject holds a value of its type, and the input is one of `int`s
 pub record IsState (g : List Class) (s : State) : Type 0 where
-  pub fields : (o f : ℕ) (t : Path) → o < length s.objects → IsSubobject g (class_of s.objects o) t → Fits g s.objects (field_type g (end_of t) f) ((object_at s.objects o).fields t f)
+  pub fields : (o f : ℕ) (t : Path) → o < length s.objects →
+      IsSubobject g (class_of s.objects o) t →
+      Fits g s.objects (field_type g (end_of t) f) ((object_at s.objects o).fields t f)
   pub input : (z : ℤ) → Has s.world.input z → IsTrue (is_int z)

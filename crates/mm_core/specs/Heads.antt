@@ -77,7 +77,9 @@ field_type g c f = field_type_of (slice_get (members_of g c) f)
 
 -- functions of one name and one list of parameter types
 abbrev pub same_function : Member → Member → Bool
-same_function m x = not (is_field m) && (not (is_field x) && (bytes_eq m.name x.name && same_types (params_in m.kind) (params_in x.kind)))
+same_function m x =
+    not (is_field m) && (not (is_field x) &&
+    (bytes_eq m.name x.name && same_types (params_in m.kind) (params_in x.kind)))
 
 -- ---- functions
 
@@ -86,7 +88,9 @@ types_of_params = map (λ (q : CoreParam). q.ty)
 
 -- a function that is a method of a class, by the text of its name and by its types
 abbrev pub is_method : Class → Function → Member → Bool
-is_method c f m = not (is_field m) && (bytes_eq f.name (c.name ++ codes "::" ++ m.name) && same_types (params_in m.kind) (types_of_params f.params))
+is_method c f m =
+    not (is_field m) && (bytes_eq f.name (c.name ++ codes "::" ++ m.name) &&
+    same_types (params_in m.kind) (types_of_params f.params))
 
 -- the class of a member function
 abbrev pub owner_of : List Class → Function → Option ℕ
@@ -122,4 +126,6 @@ has_params (q ∷ qs) = true
 
 -- `main`, which is no member and has no parameters
 abbrev pub is_main : Function → Bool
-is_main f = bytes_eq f.name (codes "main") && (not f.member && (not (has_params f.params) && same_type f.result ty.Int))
+is_main f =
+    bytes_eq f.name (codes "main") &&
+    (not f.member && (not (has_params f.params) && same_type f.result ty.Int))

@@ -16,6 +16,8 @@ pub mod Meaning
 pub mod Run
 pub mod Valid
 pub mod ValidProgram
+pub mod Sizes
+pub mod Units
 pub mod Fits
 pub mod Keeps
 pub mod Renaming

@@ -1,5 +1,6 @@
--- What a checked program does: from a state and a clock, a result, the state after it and the clock left, or a stop.
--- (ISO/IEC 14882, 1.9, 5, 6 and 3.6.1; the traps, the order of evaluation and the clock are own.)
+-- What a checked program does: from a state and a clock, a result, the state after it and the clock
+-- left, or a stop. (ISO/IEC 14882, 1.9, 5, 6 and 3.6.1; the traps, the order of evaluation and the
+-- clock are own.)
 use Rattle.std.specs.Prelude.{ℕ, zero, suc, ℤ, pos, true, false, not, List, [], ◌∷◌, Option, Some, None, Result, Ok, Err, if◌then◌else◌, slice_get}
 use Rattle.mm_base.specs.declared.num.Trap.{Trap}
 use Rattle.mm_base.specs.declared.num.Trap.TheVariants as by
@@ -161,16 +162,16 @@ next_turn Continued again = again
 next_turn Broke again = pure Next
 next_turn (Returned v) again = pure (Returned v)
 
--- What stands before the body in a turn (the step of a `for`, the test of a `do`) goes on to it; a `continue` there
--- ends the turn, and the next one begins without what stands before.
+-- What stands before the body in a turn (the step of a `for`, the test of a `do`) goes on to it; a
+-- `continue` there ends the turn, and the next one begins without what stands before.
 abbrev pub begun : Flow → From Store Flow → From Store Flow → From Store Flow
 begun Next rest again = rest
 begun Continued rest again = again
 begun Broke rest again = pure Next
 begun (Returned v) rest again = pure (Returned v)
 
--- A loop of at most n turns, each of which is a step: what the turn that is due begins with, what the later ones begin
--- with, and the body. No run has more turns than steps.
+-- A loop of at most n turns, each of which is a step: what the turn that is due begins with, what
+-- the later ones begin with, and the body. No run has more turns than steps.
 abbrev pub turns_from : ℕ → From Store Flow → From Store Flow → From Store Flow → From Store Flow
 turns_from zero now before body = stop Spent
 turns_from (suc n) now before body = step Spent (do
@@ -228,7 +229,9 @@ module _ (w : Setting) (types : List Ty) where
 
 -- what a function gives whose body came to its end
 abbrev pub at_end : Function → From State Value
-at_end f = if same_type f.result ty.Void then pure Nothing else (if is_main f then pure (Number (pos 0)) else trap by.NoResult)
+at_end f =
+    if same_type f.result ty.Void then pure Nothing
+    else (if is_main f then pure (Number (pos 0)) else trap by.NoResult)
 
 abbrev pub result_of : Function → Run Stop Store Flow → Run Stop State Value
 result_of f (Gives (Returned v) s k) = Gives v s.state k
@@ -239,7 +242,9 @@ result_of f (Stops t s) = Stops t s.state
 
 -- a body runs on its own locals
 abbrev pub enter : Setting → Function → Stmt → List Value → From State Value
-enter w f body vs s k = result_of f (flow_of w (local_types w.classes f) body (record { locals = start vs f.locals; state = s }) k)
+enter w f body vs s k =
+    result_of f (flow_of w (local_types w.classes f) body
+    (record { locals = start vs f.locals; state = s }) k)
 
 -- A checked program calls only functions that are there and defined.
 abbrev pub enter_body : Setting → Function → Option Stmt → List Value → From State Value
@@ -263,4 +268,5 @@ setting_of p calls = record {
 -- Calls of at most n functions inside one another. The entry of a function is a step.
 abbrev pub call_of : Program → ℕ → Calls
 call_of p zero f vs = stop Spent
-call_of p (suc n) f vs = step Spent (enter_if (setting_of p (call_of p n)) (slice_get p.functions f) vs)
+call_of p (suc n) f vs =
+    step Spent (enter_if (setting_of p (call_of p n)) (slice_get p.functions f) vs)

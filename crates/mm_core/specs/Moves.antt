@@ -1,5 +1,5 @@
--- How a run gets from one subobject of an object to another. Nothing else changes which subobject a pointer shows.
--- (ISO/IEC 14882, 4.10/3, 10.3 and 12.6.2/8, in the words of Rossie and Friedman.)
+-- How a run gets from one subobject of an object to another. Nothing else changes which subobject a
+-- pointer shows. (ISO/IEC 14882, 4.10/3, 10.3 and 12.6.2/8, in the words of Rossie and Friedman.)
 use Rattle.std.specs.Prelude.{ℕ, List, Option, Some, None, Result, Ok, Err, slice_get}
 use Rattle.mm_base.specs.declared.num.Trap.{Trap}
 use Rattle.mm_base.specs.declared.num.Trap.TheVariants as by
@@ -12,8 +12,8 @@ use Rattle.mm_core.specs.Heads.{class_in}
 use Rattle.mm_core.specs.Finals.{final_of}
 use Rattle.mm_core.specs.State.{Value, Truth, Number, Word, Null, At, Nothing, State, class_of, on_some, Operation}
 
--- The ways on from a subobject: to a base of it, along a path; to the final overrider of a function that it declares; and to
--- the subobject of a class that contains it.
+-- The ways on from a subobject: to a base of it, along a path; to the final overrider of a function
+-- that it declares; and to the subobject of a class that contains it.
 pub data Way : Type 0 where
   to_base : Path → Way
   to_final : Member → Way
@@ -56,7 +56,8 @@ abbrev pub tested_pointer : Value → Result Value Trap
 tested_pointer (At o t) = Ok (At o t)
 tested_pointer other = Err by.Null
 
--- The way of a result: from its class up to that of the declaration called, where it has one (10.3/5).
+-- The way of a result: from its class up to that of the declaration called, where it has one
+-- (10.3/5).
 abbrev pub path_between : List Class → Option ℕ → Option ℕ → Option Path
 path_between g (Some c) (Some b) = only (ups g c b)
 path_between g (Some c) None = None

@@ -39,12 +39,15 @@ type_text g (ty.Ref c) = name_of g c ++ codes "&"
 
 -- `f(A&,B*,int)`
 abbrev pub signature : List Class → Function → List ℕ
-signature g f = f.name ++ codes "(" ++ join_with_byte 44 (map (type_text g) (types_of_params f.params)) ++ codes ")"
+signature g f =
+    f.name ++ codes "(" ++ join_with_byte 44 (map (type_text g) (types_of_params f.params))
+    ++ codes ")"
 
 -- the order of base-methods: by name, then by the names of classes, then by signature
 abbrev pub declared_before : List Class → Declared → Declared → Bool
 declared_before g r q =
-    if not (bytes_eq r.function.name q.function.name) then text_before r.function.name q.function.name
+    if not (bytes_eq r.function.name q.function.name)
+    then text_before r.function.name q.function.name
     else (if names_before g r q then true
     else (if names_before g q r then false
     else text_before (signature g r.function) (signature g q.function)))

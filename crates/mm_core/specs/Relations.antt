@@ -1,5 +1,5 @@
--- The sets of subobjects and the rule of overriding, said as relations. Each function that computes one gives what its
--- relation says. (ISO/IEC 14882, 10, 10.2 and 10.3; own on open-methods.)
+-- The sets of subobjects and the rule of overriding, said as relations. Each function that computes
+-- one gives what its relation says. (ISO/IEC 14882, 10, 10.2 and 10.3; own on open-methods.)
 use Rattle.std.specs.Prelude.{◌≡◌, ◌⊎◌, ◌↔◌, ℕ, IsTrue, List, Some}
 use Rattle.std.specs.List.{list_any}
 use Rattle.mm_classes.specs.declared.class.Member.{Member}
@@ -26,7 +26,8 @@ IsAround g d s c t = IsSubobject g d t × (end_of t ≡ c) × IsWithin g s t
 
 -- t is a subobject of d that contains s and whose class declares the function
 abbrev pub IsOverrider : List Class → ℕ → Path → Member → Path → Type 0
-IsOverrider g d s m t = IsSubobject g d t × IsWithin g s t × IsTrue (list_any (same_function m) (members_of g (end_of t)))
+IsOverrider g d s m t = IsSubobject g d t × IsWithin g s t ×
+    IsTrue (list_any (same_function m) (members_of g (end_of t)))
 
 -- t has the property, and no other one that has it contains t
 abbrev pub IsTop : List Class → (Path → Type 0) → Path → Type 0
@@ -38,11 +39,14 @@ IsFinal g d s m = IsOnly (IsTop g (IsOverrider g d s m))
 
 pub record Reads (g : List Class) : Type 0 where
   pub ways : (c b : ℕ) (q : Path) → (only (ups g c b) ≡ Some q) ↔ IsOnly (IsWay g c b) q
-  pub around : (d : ℕ) (s : Path) (c : ℕ) (t : Path) → (only (arounds g d s c) ≡ Some t) ↔ IsOnly (IsAround g d s c) t
-  pub final : (d : ℕ) (s : Path) (m : Member) (t : Path) → (final_of g d s m ≡ Some t) ↔ IsFinal g d s m t
+  pub around : (d : ℕ) (s : Path) (c : ℕ) (t : Path) →
+      (only (arounds g d s c) ≡ Some t) ↔ IsOnly (IsAround g d s c) t
+  pub final : (d : ℕ) (s : Path) (m : Member) (t : Path) →
+      (final_of g d s m ≡ Some t) ↔ IsFinal g d s m t
   pub derives : (c b : ℕ) → IsTrue (is_a g c b) ↔ ((c ≡ b) ⊎ Derives g c b)
 
 -- No declaration overrides itself, and overriding is transitive.
 pub record Orders (g : List Class) : Type 0 where
   pub itself : (r : Function) → IsTrue (overrides g r r) → ⊥
-  pub through : (r q o : Function) → IsTrue (overrides g r q) → IsTrue (overrides g q o) → IsTrue (overrides g r o)
+  pub through : (r q o : Function) → IsTrue (overrides g r q) → IsTrue (overrides g q o) →
+      IsTrue (overrides g r o)

@@ -1,4 +1,5 @@
--- Trees with other numbers for classes and functions; fields, methods, locals and subobjects keep theirs. (Own.)
+-- Trees with other numbers for classes and functions; fields, methods, locals and subobjects keep
+-- theirs. (Own.)
 use Rattle.std.specs.Prelude.{ℕ}
 use Rattle.mm_classes.specs.declared.class.Ty.{Ty}
 use Rattle.mm_classes.specs.declared.class.Ty.TheVariants as ty

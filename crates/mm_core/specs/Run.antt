@@ -1,4 +1,5 @@
--- The run of a program on an input, with a bound on its steps. (ISO/IEC 14882, 3.6.1; the bound is own.)
+-- The run of a program on an input, with a bound on its steps. (ISO/IEC 14882, 3.6.1; the bound is
+-- own.)
 use Rattle.std.specs.Prelude.{ℕ, suc, ℤ, List, [], ◌∷◌, ◌&&◌, if◌then◌else◌}
 use Rattle.mm_base.specs.Num.{code_of}
 use Rattle.mm_base.specs.World.{world_of}

@@ -1,5 +1,5 @@
--- Operators and conversions: what they make of values, or the trap. (ISO/IEC 14882, 4.7, 4.12, 5.3.1, 5.6, 5.7, 5.9 and 5.10;
--- the traps are own.)
+-- Operators and conversions: what they make of values, or the trap. (ISO/IEC 14882, 4.7, 4.12,
+-- 5.3.1, 5.6, 5.7, 5.9 and 5.10; the traps are own.)
 use Rattle.std.specs.Prelude.{ℕ, ◌+◌, ◌-◌, ◌*◌, ◌/◌, ◌%◌, ◌^◌, ℤ, pos, ◌+ℤ◌, ◌-ℤ◌, ◌*ℤ◌, Bool, true, false, not, ◌&&◌, nat_eq, nat_lt, nat_le, if◌then◌else◌, Result, Ok, Err, int_lt, int_le, int_div, int_rem}
 use Rattle.std.specs.Str.{bytes_eq}
 use Rattle.mm_base.specs.declared.num.Trap.{Trap}
@@ -50,8 +50,8 @@ abbrev pub number_or : Result ℤ Trap → Result Value Trap
 number_or (Ok z) = Ok (Number z)
 number_or (Err t) = Err t
 
--- The exact value of the quotient, which truncates to zero; the remainder is that of the same quotient, and traps where
--- the quotient does.
+-- The exact value of the quotient, which truncates to zero; the remainder is that of the same
+-- quotient, and traps where the quotient does.
 abbrev pub quotient : ℤ → ℤ → Result ℤ Trap
 quotient a b = if is_zero b then Err by.Divide else int_of (int_div a b)
 
@@ -130,8 +130,10 @@ all_like old (Err t) = Err t
 
 -- the type in which an operator works on two values: `unsigned` where one is, else `int`
 abbrev pub common : Value → Value → Target
-common v w = if is_word v then target.Unsigned else (if is_word w then target.Unsigned else target.Int)
+common v w =
+    if is_word v then target.Unsigned else (if is_word w then target.Unsigned else target.Int)
 
 -- the operation in the common type, converted to the type of the old value
 abbrev pub compounded : Operator → Value → Value → Result Value Trap
-compounded op old v = all_like old (operate op (converted (common old v) old) (converted (common old v) v))
+compounded op old v =
+    all_like old (operate op (converted (common old v) old) (converted (common old v) v))

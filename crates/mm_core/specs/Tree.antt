@@ -1,5 +1,5 @@
--- The trees of a checked program. No name of a variable or type is left to look up in them, and each conversion stands in
--- them. (The forms of ISO/IEC 14882, 5 and 6, after checking.)
+-- The trees of a checked program. No name of a variable or type is left to look up in them, and
+-- each conversion stands in them. (The forms of ISO/IEC 14882, 5 and 6, after checking.)
 use Rattle.std.specs.Prelude.{ℕ, ℤ, Bool, List, Option}
 use Rattle.mm_base.specs.declared.place.Place.{Place}
 use Rattle.mm_base.specs.declared.world.Builtin.{Builtin}
@@ -10,8 +10,8 @@ use Rattle.mm_core.specs.declared.part.Target.{Target}
 use Rattle.mm_core.specs.declared.part.Change.{Change}
 use Rattle.mm_core.specs.declared.part.CoreParam.{CoreParam}
 
--- A class, a function, a local is cited by its number; a field or a method by its place among all members of its class; a
--- subobject by its place in the order of the subobjects of its class.
+-- A class, a function, a local is cited by its number; a field or a method by its place among all
+-- members of its class; a subobject by its place in the order of the subobjects of its class.
 mutual
   -- An expression.
   pub data Expr : Type 0 where
@@ -78,8 +78,8 @@ mutual
     no_stmts : Stmts
     stmt_and : Stmt → Stmts → Stmts
 
--- A function. Its locals are `this` where it is a member, its parameters and its variables; `locals` has the types of the
--- variables alone.
+-- A function. Its locals are `this` where it is a member, its parameters and its variables;
+-- `locals` has the types of the variables alone.
 pub record Function : Type 0 where
   pub name : List ℕ
   pub defined : Bool

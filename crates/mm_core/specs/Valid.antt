@@ -1,5 +1,5 @@
--- Which trees checking gives: the types of expressions, and what every node asks of its parts. (ISO/IEC 14882, 3.9.1, 4, 5
--- and 6; what a reference variable asks is own.)
+-- Which trees checking gives: the types of expressions, and what every node asks of its parts.
+-- (ISO/IEC 14882, 3.9.1, 4, 5 and 6; what a reference variable asks is own.)
 use Rattle.std.specs.Prelude.{◌≡◌, ◌≢◌, ◌⊎◌, ℕ, ◌<◌, ◌≤◌, ◌^◌, Bool, true, false, IsTrue, List, [], ◌∷◌, ◌++◌, length, Option, Some, None, codes, slice_get, if◌then◌else◌}
 use Rattle.mm_base.specs.Num.{is_int}
 use Rattle.mm_base.specs.declared.world.Builtin.{Builtin}
@@ -125,9 +125,11 @@ module _ (a : Around) where
     type_of (negation e) = ty.Bool
     type_of (both d e) = ty.Bool
     type_of (either d e) = ty.Bool
-    type_of (choose c d e) = if same_type (type_of d) (type_of e) then type_of d else as_pointer (type_of d)
+    type_of (choose c d e) =
+        if same_type (type_of d) (type_of e) then type_of d else as_pointer (type_of d)
     type_of (call f es) = result_of_function (slice_get a.functions f)
-    type_of (virtual_call m e es) = result_of_method (slice_get (members_of a.classes (class_shown (type_of e))) m)
+    type_of (virtual_call m e es) =
+        result_of_method (slice_get (members_of a.classes (class_shown (type_of e))) m)
     type_of (open_call f es) = result_of_function (slice_get a.functions f)
     type_of (builtin b es) = type_answered b
     type_of (new c) = ty.Ptr c
@@ -163,22 +165,28 @@ HasField g t f = (c : ℕ) × IsObject g t c × IsFieldOf g c f
 
 -- declared virtual, or it overrides one that is
 abbrev pub IsVirtualIn : List Class → ℕ → Member → Type 0
-IsVirtualIn g c m = IsTrue (is_virtual m) ⊎ ((b : ℕ) × (x : Member) × Derives g c b × Has (members_of g b) x × IsTrue (same_function m x) × IsTrue (is_virtual x))
+IsVirtualIn g c m =
+    IsTrue (is_virtual m) ⊎ ((b : ℕ) × (x : Member) × Derives g c b × Has (members_of g b) x ×
+    IsTrue (same_function m x) × IsTrue (is_virtual x))
 
 abbrev pub IsDestructor : List Class → ℕ → Member → Type 0
 IsDestructor g c m = m.name ≡ codes "~" ++ name_of g c
 
 -- the method, which a virtual call may call
 abbrev pub IsVirtualMethod : List Class → ℕ → ℕ → Member → Type 0
-IsVirtualMethod g c n m = (slice_get (members_of g c) n ≡ Some m) × (is_field m ≡ false) × (IsDestructor g c m → ⊥) × IsVirtualIn g c m
+IsVirtualMethod g c n m = (slice_get (members_of g c) n ≡ Some m) × (is_field m ≡ false) ×
+    (IsDestructor g c m → ⊥) × IsVirtualIn g c m
 
 -- two numbers of one type, or two pointers to one class that are tested for equality
 abbrev pub AreOperands : Operator → Ty → Ty → Type 0
-AreOperands op t u = (IsTrue (is_number t) × (t ≡ u)) ⊎ (IsTrue (tests_equality op) × IsTrue (is_pointer t) × (class_in t ≡ class_in u))
+AreOperands op t u =
+    (IsTrue (is_number t) × (t ≡ u)) ⊎
+    (IsTrue (tests_equality op) × IsTrue (is_pointer t) × (class_in t ≡ class_in u))
 
 -- between arithmetic types, or from a pointer to `bool`
 abbrev pub Converts : Ty → Target → Type 0
-Converts t x = (t ≢ type_of_target x) × (IsTrue (is_arithmetic t) ⊎ (IsTrue (is_pointer t) × (x ≡ target.Bool)))
+Converts t x = (t ≢ type_of_target x) ×
+    (IsTrue (is_arithmetic t) ⊎ (IsTrue (is_pointer t) × (x ≡ target.Bool)))
 
 -- one type, or pointers to one class
 abbrev pub AreBranches : Ty → Ty → Type 0
@@ -190,7 +198,8 @@ IsKnown types known x = IsTrue (is_reference (type_at types x)) → Has known x
 
 module _ (a : Around) where
   abbrev pub IsCalled : Bool → ℕ → List Ty → Type 0
-  IsCalled open' n ts = (f : Function) × (slice_get a.functions n ≡ Some f) × (is_open f ≡ open') × IsTrue (a.callable f) × AllSuit ts (argument_types a.classes f)
+  IsCalled open' n ts = (f : Function) × (slice_get a.functions n ≡ Some f) × (is_open f ≡ open') ×
+      IsTrue (a.callable f) × AllSuit ts (argument_types a.classes f)
 
   module _ (known : List ℕ) where
     abbrev mutual
@@ -200,25 +209,35 @@ module _ (a : Around) where
       IsValid (bool b) = Unit {0}
       IsValid (null c) = c < length a.classes
       IsValid (local x) = (x < length a.locals) × IsKnown a.locals known x
-      IsValid (set_local x e) = (x < length a.locals) × Suits (type_of a e) (type_at a.locals x) × IsValid e
+      IsValid (set_local x e) = (x < length a.locals) × Suits (type_of a e) (type_at a.locals x) ×
+          IsValid e
       IsValid (field f e) = HasField a.classes (type_of a e) f × IsValid e
-      IsValid (set_field f e d) = HasField a.classes (type_of a e) f × Suits (type_of a d) (type_of a (field f e)) × IsValid e × IsValid d
+      IsValid (set_field f e d) = HasField a.classes (type_of a e) f ×
+          Suits (type_of a d) (type_of a (field f e)) × IsValid e × IsValid d
       IsValid (not_null e) = (c : ℕ) × (type_of a e ≡ ty.Ptr c) × IsComplete a.classes c × IsValid e
-      IsValid (move c n e) = (class_in (type_of a e) ≡ Some c) × IsComplete a.classes c × (0 < n) × IsNode a.classes c n × IsValid e
+      IsValid (move c n e) = (class_in (type_of a e) ≡ Some c) × IsComplete a.classes c × (0 < n) ×
+          IsNode a.classes c n × IsValid e
       IsValid (convert t e) = Converts (type_of a e) t × IsValid e
       IsValid (binary op d e) = AreOperands op (type_of a d) (type_of a e) × IsValid d × IsValid e
       IsValid (negation e) = (type_of a e ≡ ty.Bool) × IsValid e
       IsValid (both d e) = (type_of a d ≡ ty.Bool) × (type_of a e ≡ ty.Bool) × IsValid d × IsValid e
-      IsValid (either d e) = (type_of a d ≡ ty.Bool) × (type_of a e ≡ ty.Bool) × IsValid d × IsValid e
-      IsValid (choose c d e) = (type_of a c ≡ ty.Bool) × AreBranches (type_of a d) (type_of a e) × IsValid c × IsValid d × IsValid e
+      IsValid (either d e) = (type_of a d ≡ ty.Bool) × (type_of a e ≡ ty.Bool) × IsValid d ×
+          IsValid e
+      IsValid (choose c d e) = (type_of a c ≡ ty.Bool) × AreBranches (type_of a d) (type_of a e) ×
+          IsValid c × IsValid d × IsValid e
       IsValid (call f es) = IsCalled false f (types_of a es) × AreValid es
-      IsValid (virtual_call m e es) = (c : ℕ) × (x : Member) × IsObject a.classes (type_of a e) c × IsVirtualMethod a.classes c m x × AllSuit (types_of a es) (params_in x.kind) × IsValid e × AreValid es
+      IsValid (virtual_call m e es) = (c : ℕ) × (x : Member) × IsObject a.classes (type_of a e) c ×
+          IsVirtualMethod a.classes c m x × AllSuit (types_of a es) (params_in x.kind) ×
+          IsValid e × AreValid es
       IsValid (open_call f es) = IsCalled true f (types_of a es) × AreValid es
       IsValid (builtin b es) = AllSuit (types_of a es) (types_asked b) × AreValid es
       IsValid (new c) = IsComplete a.classes c
       IsValid (step_local x c) = (x < length a.locals) × IsTrue (is_number (type_at a.locals x))
-      IsValid (step_field f c e) = HasField a.classes (type_of a e) f × IsTrue (is_number (type_of a (field f e))) × IsValid e
-      IsValid (compound op f e d) = (compares op ≡ false) × HasField a.classes (type_of a e) f × IsTrue (is_number (type_of a (field f e))) × IsTrue (is_arithmetic (type_of a d)) × IsValid e × IsValid d
+      IsValid (step_field f c e) = HasField a.classes (type_of a e) f ×
+          IsTrue (is_number (type_of a (field f e))) × IsValid e
+      IsValid (compound op f e d) = (compares op ≡ false) × HasField a.classes (type_of a e) f ×
+          IsTrue (is_number (type_of a (field f e))) × IsTrue (is_arithmetic (type_of a d)) ×
+          IsValid e × IsValid d
 
       pub AreValid : Exprs → Type 0
       AreValid no_exprs = Unit {0}
@@ -252,17 +271,21 @@ module _ (a : Around) (result : Ty) where
     pub IsValidStmt : Bool → List ℕ → Stmt → Type 0
     IsValidStmt in_loop known (block ss) = AreValidStmts in_loop known ss
     IsValidStmt in_loop known (run e) = IsValid a known e
-    IsValidStmt in_loop known (if_else e ss ts) = IsTest a known e × AreValidStmts in_loop known ss × AreValidStmts in_loop known ts
+    IsValidStmt in_loop known (if_else e ss ts) = IsTest a known e ×
+        AreValidStmts in_loop known ss × AreValidStmts in_loop known ts
     IsValidStmt in_loop known (while_do e ss) = IsTest a known e × AreValidStmts true known ss
     IsValidStmt in_loop known (do_while ss e) = AreValidStmts true known ss × IsTest a known e
-    IsValidStmt in_loop known (for_do e s ss) = IsTest a known e × IsTrue (is_step s) × IsValidStmt true known s × AreValidStmts true known ss
+    IsValidStmt in_loop known (for_do e s ss) = IsTest a known e × IsTrue (is_step s) ×
+        IsValidStmt true known s × AreValidStmts true known ss
     IsValidStmt in_loop known break = IsTrue in_loop
     IsValidStmt in_loop known continue = IsTrue in_loop
     IsValidStmt in_loop known return_nothing = result ≡ ty.Void
     IsValidStmt in_loop known (return e) = Suits (type_of a e) result × IsValid a known e
-    IsValidStmt in_loop known (make x) = (a.arguments ≤ x) × (x < length a.locals) × ((c : ℕ) × IsObject a.classes (type_at a.locals x) c)
+    IsValidStmt in_loop known (make x) = (a.arguments ≤ x) × (x < length a.locals) ×
+        ((c : ℕ) × IsObject a.classes (type_at a.locals x) c)
 
     -- what a statement sets is known in those behind it, and in what stands in them
     pub AreValidStmts : Bool → List ℕ → Stmts → Type 0
     AreValidStmts in_loop known no_stmts = Unit {0}
-    AreValidStmts in_loop known (stmt_and s ss) = IsValidStmt in_loop known s × AreValidStmts in_loop (sets s ++ known) ss
+    AreValidStmts in_loop known (stmt_and s ss) = IsValidStmt in_loop known s ×
+        AreValidStmts in_loop (sets s ++ known) ss

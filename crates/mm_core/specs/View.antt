@@ -76,7 +76,17 @@ body_view None = None
 body_view (Some s) = Some (stmt_view s)
 
 abbrev pub function_view : CoreFn → t.Function
-function_view f = record { name = f.name; defined = f.defined; in_class = f.in_class; member = f.member; place = f.place; result = f.result; params = f.params; locals = f.locals; body = body_view f.body }
+function_view f = record {
+  name = f.name;
+  defined = f.defined;
+  in_class = f.in_class;
+  member = f.member;
+  place = f.place;
+  result = f.result;
+  params = f.params;
+  locals = f.locals;
+  body = body_view f.body;
+}
 
 abbrev pub program_view : List Class → List CoreFn → t.Program
 program_view g fs = record { classes = g; functions = map function_view fs }

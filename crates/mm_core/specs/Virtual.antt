@@ -13,7 +13,8 @@ use Rattle.mm_core.specs.Heads.{result_in, same_function, function_of}
 use Rattle.mm_core.specs.State.{Value, At, State, class_of, From, or_trap, on_some, at_once}
 use Rattle.mm_core.specs.Moves.{to_final, moved, result_back}
 
--- A call of a function, by its number, on the values of its arguments, `this` first where it is a member.
+-- A call of a function, by its number, on the values of its arguments, `this` first where it is a
+-- member.
 abbrev pub Calls : Type 0
 Calls = ℕ → List Value → From State Value
 
@@ -21,7 +22,8 @@ Calls = ℕ → List Value → From State Value
 abbrev pub reads : {A : Type 0} → (State → Result A Trap) → From State A
 reads f s = or_trap (f s) s
 
--- The function that a call enters, with its arguments, and the result type of the declaration that was called.
+-- The function that a call enters, with its arguments, and the result type of the declaration that
+-- was called.
 pub record Entry : Type 0 where
   pub function : ℕ
   pub arguments : List Value
@@ -39,7 +41,9 @@ entered p calls e = do
 
 -- the function of a class that is the same as a member
 abbrev pub declared_in : Program → ℕ → Member → Option ℕ
-declared_in p c x = option_and_then (function_of p (class_at p.classes c)) (find (same_function x) (members_of p.classes c))
+declared_in p c x =
+    option_and_then (function_of p (class_at p.classes c))
+    (find (same_function x) (members_of p.classes c))
 
 -- A virtual call on a subobject enters the final overrider, on the final overrider's subobject.
 abbrev pub virtual_entry : Program → ℕ → Value → List Value → State → Result Entry Trap

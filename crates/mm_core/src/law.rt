@@ -2,7 +2,7 @@
 
 ghost use Rattle.std.specs.Prelude.{List};
 ghost use Rattle.mm_classes.specs.Classes.{Class, IsClassList};
-ghost use Rattle.mm_core.specs.Keeps.{ValuesFit};
+ghost use Rattle.mm_core.specs.Keeps.{ProgramsFit, ValuesFit};
 ghost use Rattle.mm_core.specs.Relations.{Orders, Reads};
 ghost use Rattle.mm_core.specs.Settles.{DeepEnough, LeavesClock, Settles};
 
@@ -40,4 +40,11 @@ pub fn orders()
 #[tactic(auto, using(crate::proofs::SoundCalls::values_fit_types))]
 pub fn values_fit()
     ensures { ValuesFit }
+{}
+
+/// In a merged program whose open-methods have no fault every call of a defined function gives a value of its type, and a run
+/// that ends does so with an `int`.
+#[tactic(auto, using(crate::proofs::Whole::programs_fit))]
+pub fn programs_fit()
+    ensures { ProgramsFit }
 {}

@@ -82,3 +82,23 @@ pub struct CoreFn {
     pub locals: Items<Ty>,
     pub body: Option<CoreStmt>,
 }
+
+/// What a unit keeps of a class beside the class itself: where it was first named, and the tokens of its definition, joined
+/// by blanks. Of a class that is only declared there are none.
+#[derive(Drop)]
+pub struct CoreClass {
+    pub place: Place,
+    pub tokens: Text,
+}
+
+/// The head of an open-method.
+#[derive(Drop)]
+pub struct OpenDecl {
+    pub name: Text,
+    pub params: Items<Ty>,
+    /// Which parameters are virtual.
+    pub virtuals: Items<bool>,
+    pub result: Ty,
+    pub place: Place,
+    pub defined: bool,
+}

@@ -121,9 +121,9 @@ module _ (p : Program) where
 
   pub sound : (d : Defined) → Has (entry p ++ others p) d → IsAt p.functions d.number d
   sound d h = elim (has_either (entry p) (others p) d h) [
-      | inl k ↦ (let s = entry_sound p.functions (number_of_main p.functions) d k in subst (λ j. IsAt p.functions j d) (sym s.0) s.1)
-      | inr k ↦ (let s = others_sound (number_of_main p.functions) p.functions 0 d k in subst (λ j. IsAt p.functions j d) (sym (s.number ∙ (let z : 0 + s.place ≡ s.place = omega arith in z))) s.at)
-    ]
+    | inl k ↦ (let s = entry_sound p.functions (number_of_main p.functions) d k in subst (λ j. IsAt p.functions j d) (sym s.0) s.1)
+    | inr k ↦ (let s = others_sound (number_of_main p.functions) p.functions 0 d k in subst (λ j. IsAt p.functions j d) (sym (s.number ∙ (let z : 0 + s.place ≡ s.place = omega arith in z))) s.at)
+  ]
 
   pub complete : (i : ℕ) (f : Function) (b : Stmt) → slice_get p.functions i ≡ Some f → f.body ≡ Some b → Has (entry p ++ others p) (defined_as i f b)
   complete i f b e h = at (nat_eq i (number_of_main p.functions)) refl

@@ -1,5 +1,5 @@
 -- The code of every expression keeps C's rules, wherever its names are declared.
-use Rattle.mm_c.proofs.Fits.{Fit, kind_same, fit_done, fit_then, fit_block, name_fits, fit_set, fit_if, fit_only, ints_fit, words_fit, words_compare, fit_run}
+use Rattle.mm_c.proofs.Fits.{Fit, fit_done, fit_then, fit_block, name_fits, fit_set, fit_if, fit_only, ints_fit, words_fit, words_compare, fit_run}
 use Rattle.mm_c.proofs.Bools.{both as both_true}
 use Rattle.std.proofs.Common.{◌≡◌, ℕ, suc, ◌+◌, ◌^◌, ◌<◌, ◌≤◌, List, [], ◌∷◌, map, length, refl, sym, ap, ◌∙◌, subst, arith, inl, inr}
 use Rattle.std.specs.Prelude.{ℤ, pos, negsuc, Bool, true, false, ◌||◌, IsTrue, nat_eq, nat_lt, ◌==◌, if◌then◌else◌, codes, Some, None, slice_get}
@@ -20,18 +20,18 @@ use Rattle.mm_c.specs.declared.tree.CAtom.TheVariants.{Name, Negative, Least}
 use Rattle.mm_c.specs.declared.tree.COperator.{COperator}
 use Rattle.mm_c.specs.declared.tree.COperator.TheVariants as o
 use Rattle.mm_c.specs.declared.tree.CCall.TheVariants.{Named}
-use Rattle.mm_c.specs.declared.tree.CExpr.TheVariants.{Atom, Binary, ToUnsigned, Load, Call}
+use Rattle.mm_c.specs.declared.tree.CExpr.TheVariants.{Atom, Binary, ToUnsigned, Call}
 use Rattle.mm_c.specs.Tree as c
 use Rattle.mm_c.specs.Tree.{Code, done, do_then, ◌⨾◌, just}
 use Rattle.mm_c.specs.WellFormed.{Here, callable, kind_number, entry_in, kind_in, is_of, fits, right_fits, both_fit, binary_fits, is_arithmetic, stmt_breaks, code_breaks}
 use Rattle.mm_c.specs.WellFormed as rules
-use Rattle.mm_core.specs.Tree.{Expr, int, unsigned, bool, local, set_local, field, convert, binary, negation, both, either, choose, call, builtin, step_local, Exprs, no_exprs, expr_and, Function}
-use Rattle.mm_core.specs.Heads.{type_at, is_open, argument_types, class_shown}
-use Rattle.mm_core.specs.Valid.{Around, type_of, types_of, compares, is_number, is_pointer, type_answered, result_of_function, types_asked, AllSuit, AreOperands, IsValid, AreValid, HasField, IsFieldOf}
+use Rattle.mm_core.specs.Tree.{Expr, int, unsigned, bool, local, set_local, convert, binary, negation, both, either, choose, call, builtin, step_local, Exprs, no_exprs, expr_and, Function}
+use Rattle.mm_core.specs.Heads.{type_at, is_open, argument_types}
+use Rattle.mm_core.specs.Valid.{Around, type_of, types_of, compares, is_number, is_pointer, type_answered, result_of_function, types_asked, AllSuit, AreOperands, IsValid, AreValid}
 use Rattle.mm_agree.specs.Agree.{Layout, kind_of, cell_of}
 use Rattle.mm_simulate.proofs.Stores.{is_void}
 use Rattle.mm_simulate.proofs.Nodes.{suits_same}
-use Rattle.mm_simulate.specs.Lowered.{plain, word, greatest, minus_one, i_, u_, p_, v_, of_, set, only_if, if_or, trap_code, overflow_if, test_by, sum_test, difference_test, bound_test, minus_test, product_test, zero_trap, unless_over, on_int, on_word, int_atom, conversion, step_end, change_in_c, step_code, called_for, builtin_name, operator, atoms_from, kind_of_result, lowered, lowered_all, reach, reach_all, IsLowered, AreLowered, block_of}
+use Rattle.mm_simulate.specs.Lowered.{plain, word, greatest, minus_one, i_, u_, p_, v_, of_, set, only_if, if_or, trap_code, overflow_if, test_by, sum_test, difference_test, bound_test, minus_test, product_test, zero_trap, unless_over, on_int, on_word, int_atom, conversion, step_end, change_in_c, step_code, called_for, builtin_name, operator, atoms_from, kind_of_result, lowered, lowered_all, reach, reach_all, IsLowered, AreLowered, block_of, effect, step_only}
 
 or_true : (a b : Bool) → b ≡ true → (a || b) ≡ true
 or_true true b e = refl
@@ -106,7 +106,6 @@ module _ (h : Here) where
 
 pub reach_some : (e : Expr) → 0 < reach e
 reach_some (set_local x e) = reach_some e
-reach_some (field f e) = reach_some e
 reach_some (convert x e) = reach_some e
 reach_some (binary op d e) = omega arith
 reach_some (negation e) = reach_some e
@@ -151,7 +150,6 @@ module _ (h : Here) (a : Around) (l : Layout) (name : ℕ → List ℕ) (n : ℕ
     pub more : entry_in h.table (codes "mm_more") ≡ Some (callable false true (Some kind.Int) [])
     pub trap : entry_in h.table (codes "mm_trap") ≡ Some (callable false true None (kind.Int ∷ []))
     pub functions : (i : ℕ) (f : Function) → slice_get a.functions i ≡ Some f → is_open f ≡ false → IsTrue (a.callable f) → (d : Bool) × (entry_in h.table (name i) ≡ Some (callable false d (kind_of_result f.result) (map kind_of (argument_types a.classes f))))
-    pub members : (d f : ℕ) → IsFieldOf a.classes d f → l.member d f < 2 ^ 31
 
   module _ (ok : Declares) where
     of_at : (type : Ty) (t : ℕ) → t < n → kind_in h.scope (of_ type t) ≡ Some (kind_of type)
@@ -254,6 +252,17 @@ module _ (h : Here) (a : Around) (l : Layout) (name : ℕ → List ℕ) (n : ℕ
     changes Up = refl
     changes Down = refl
 
+    fit_step_only : (type : Ty) (t x : ℕ) (change : Change) → t < n → IsTrue (is_number type) → kind_in h.scope (v_ x) ≡ Some (kind_of type) → Fit h (step_only t x change type)
+    fit_step_only ty.Int t x change low is e =
+        let fv = name_fits h kind.Int (v_ x) e in
+        fit_then h (set (i_ t) (Binary (Name (v_ x)) o.Equal (step_end change))) _ (fit_set h (i_ t) kind.Int _ (ok.ints t low) (ints_fit h (Name (v_ x)) (step_end change) o.Equal fv (step_fits change)))
+        (fit_then h (overflow_if (i_ t)) _ (only_fits h (i_ t) _ (ok.ints t low) (fit_trap h ok.trap 1 refl)) (fit_set h (v_ x) kind.Int _ e (ints_fit h (Name (v_ x)) (plain 1) (change_in_c change) fv refl)))
+    fit_step_only ty.Unsigned t x change low is e = fit_set h (v_ x) kind.Unsigned _ e (words_fit h (Name (v_ x)) (word 1) (change_in_c change) (changes change) (name_fits h kind.Unsigned (v_ x) e) refl)
+    fit_step_only ty.Void t x change low is e = cc
+    fit_step_only ty.Bool t x change low is e = cc
+    fit_step_only (ty.Ptr d) t x change low is e = cc
+    fit_step_only (ty.Ref d) t x change low is e = cc
+
     fit_step : (type : Ty) (t x : ℕ) (change : Change) → suc t < n → IsTrue (is_number type) → kind_in h.scope (v_ x) ≡ Some (kind_of type) → Fit h (step_code t x change type)
     fit_step ty.Int t x change low is e =
         let low' : t < n = omega arith in
@@ -314,12 +323,6 @@ module _ (h : Here) (a : Around) (l : Layout) (name : ℕ → List ℕ) (n : ℕ
     asked Get = (true, ok.get)
     asked More = (true, ok.more)
 
-    fit_load : (type : Ty) (t d f : ℕ) → t < n → IsFieldOf a.classes d f → Fit h (set (of_ type t) (Load (cell_of type) (record { pointer = p_ t; offset = record { value = l.member d f; is_unsigned = false } })))
-    fit_load type t d f low is = fit_set h (of_ type t) (kind_of type) _ (of_at type t low) (both_true (rules.result_number (rules.kind_of_cell (cell_of type)) == kind_number (kind_of type)) (rules.address_fits h (record { pointer = p_ t; offset = record { value = l.member d f; is_unsigned = false } })) (rw (cell_kind type) (kind_same (kind_of type))) (let m : nat_lt (l.member d f) (2 ^ 31) ≡ true = (let z = ok.members d f is in grind arith) in rw (name_fits h kind.Pointer (p_ t) (ok.pointers t low), m) refl))
-
-    field_of : (type : Ty) (f : ℕ) → HasField a.classes type f → IsFieldOf a.classes (class_shown type) f
-    field_of type f h = subst (λ z. IsFieldOf a.classes (class_shown z) f) (sym h.1.0) h.2
-
     there : (f : ℕ) (x : Function) → slice_get a.functions f ≡ Some x → is_open x ≡ false → IsTrue (a.callable x) → Entered (name f) x.result (argument_types a.classes x)
     unfolding Entered
     there f x e closed callable' = ok.functions f x e closed callable'
@@ -333,7 +336,6 @@ module _ (h : Here) (a : Around) (l : Layout) (name : ℕ → List ℕ) (n : ℕ
         expr_fits (bool false) t low valid le = fit_set h (i_ t) kind.Int _ (ok.ints t (omega arith)) refl
         expr_fits (local x) t low valid le = fit_set h (of_ (type_at a.locals x) t) (kind_of (type_at a.locals x)) _ (of_at (type_at a.locals x) t (omega arith)) (name_fits h (kind_of (type_at a.locals x)) (v_ x) (ok.locals x valid.0))
         expr_fits (set_local x e) t low valid le = fit_then h (lowered a l name t e) _ (expr_fits e t low valid.2 le) (fit_set h (v_ x) (kind_of (type_at a.locals x)) _ (ok.locals x valid.0) (subst (λ k. fits h k (Name (of_ (type_of a e) t)) ≡ true) (suits_same (type_of a e) (type_at a.locals x) valid.1).kinds (of_fits (type_of a e) t (omega (arith, reach_some e)))))
-        expr_fits (field f e) t low valid le = fit_then h (lowered a l name t e) _ (expr_fits e t low valid.1 le) (fit_load (type_of a (field f e)) t (class_shown (type_of a e)) f (omega (arith, reach_some e)) (field_of (type_of a e) f valid.0))
         expr_fits (convert x e) t low valid le = fit_then h (lowered a l name t e) _ (expr_fits e t low valid.1 le) (fit_conversion x (type_of a e) t (omega (arith, reach_some e)))
         expr_fits (binary op d e) t low valid le = fit_then h (lowered a l name t d) _ (expr_fits d t low.1 valid.1 (omega arith)) (fit_then h (lowered a l name (suc t) e) _ (expr_fits e (suc t) low.2 valid.2 (omega arith)) (fit_operator op (type_of a d) t (omega arith) (numbers_are op (type_of a d) (type_of a e) low.0 valid.0).0))
         expr_fits (negation e) t low valid le = fit_then h (lowered a l name t e) _ (expr_fits e t low valid.1 le) (fit_int_test t (omega (arith, reach_some e)) o.Equal)
@@ -352,3 +354,11 @@ module _ (h : Here) (a : Around) (l : Layout) (name : ℕ → List ℕ) (n : ℕ
         pub exprs_fit : (es : Exprs) (t : ℕ) → AreLowered a es → AreValid a known es → t + reach_all es ≤ n → Fit h (lowered_all a l name t es)
         exprs_fit no_exprs t low valid le = fit_done h
         exprs_fit (expr_and e es) t low valid le = fit_then h (lowered a l name t e) _ (expr_fits e t low.0 valid.0 (omega arith)) (exprs_fit es (suc t) low.1 valid.1 (omega arith))
+
+      pub effect_fits : (e : Expr) (t : ℕ) → IsLowered a e → IsValid a known e → t + reach e ≤ n → Fit h (effect a l name t e)
+      effect_fits (call f es) t low valid le =
+          let v = valid.0 in
+          fit_then h (lowered_all a l name t es) _ (exprs_fit es t low valid.1 (omega arith)) (run_fits (name f) v.0.result (argument_types a.classes v.0) (types_of a es) es t (there f v.0 v.1 v.2 v.3) refl v.4 (omega arith))
+      effect_fits (builtin b es) t low valid le = fit_then h (lowered_all a l name t es) _ (exprs_fit es t low valid.1 (omega arith)) (run_fits (builtin_name b) (type_answered b) (types_asked b) (types_of a es) es t (asked b) refl valid.0 (omega arith))
+      effect_fits (step_local x change) t low valid le = fit_step_only (type_at a.locals x) t x change (omega arith) valid.1 (ok.locals x valid.0)
+      effect_fits e t low valid le = expr_fits e t low valid le

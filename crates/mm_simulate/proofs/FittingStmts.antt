@@ -13,9 +13,9 @@ use Rattle.mm_c.proofs.Fits.{Fit, fit_done, fit_then, fit_block, fit_set, fit_fo
 use Rattle.mm_core.specs.Tree.{Stmt, block, run, if_else, while_do, do_while, for_do, break, continue, return_nothing, return, Stmts, no_stmts, stmt_and}
 use Rattle.mm_core.specs.Valid.{Around, type_of, sets, IsValidStmt, AreValidStmts}
 use Rattle.mm_agree.specs.Agree.{Layout, kind_of}
-use Rattle.mm_simulate.specs.Lowered.{plain, i_, of_, set, only_if, break_unless, flagged, kind_of_result, lowered, lowered_stmt, lowered_stmts, reach_stmt, reach_stmts, IsLoweredStmt, AreLoweredStmts, step_in}
+use Rattle.mm_simulate.specs.Lowered.{plain, i_, of_, set, only_if, break_unless, flagged, kind_of_result, lowered, lowered_stmt, lowered_stmts, reach_stmt, reach_stmts, IsLoweredStmt, AreLoweredStmts, step_in, looped, block_of}
 use Rattle.mm_simulate.proofs.Nodes.{suits_same}
-use Rattle.mm_simulate.proofs.Fitting.{Declares, if_fits, only_fits, of_fits, expr_fits, reach_some}
+use Rattle.mm_simulate.proofs.Fitting.{Declares, if_fits, only_fits, of_fits, expr_fits, reach_some, effect_fits}
 
 module _ (a : Around) (l : Layout) (name : ℕ → List ℕ) (n : ℕ) (result : Ty) where
   -- where a statement stands
@@ -27,7 +27,7 @@ module _ (a : Around) (l : Layout) (name : ℕ → List ℕ) (n : ℕ) (result :
 
   in_loop : (h : Here) (b : Bool) → Stands h b → Stands (record h { in_loop = true }) true
   in_loop h b s = record {
-    declares = record { ints = s.declares.ints; words = s.declares.words; pointers = s.declares.pointers; locals = s.declares.locals; put = s.declares.put; get = s.declares.get; more = s.declares.more; trap = s.declares.trap; functions = s.declares.functions; members = s.declares.members };
+    declares = record { ints = s.declares.ints; words = s.declares.words; pointers = s.declares.pointers; locals = s.declares.locals; put = s.declares.put; get = s.declares.get; more = s.declares.more; trap = s.declares.trap; functions = s.declares.functions };
     plain = s.plain;
     gives = s.gives;
     loop = λ t. refl;
@@ -59,6 +59,10 @@ module _ (a : Around) (l : Layout) (name : ℕ → List ℕ) (n : ℕ) (result :
   fit_step h b st t low (run e) xs f = f
   fit_step h b st t low s xs f = fit_then h (set (i_ t) (Atom (plain 0))) xs (fit_set h (i_ t) kind.Int (Atom (plain 0)) (st.declares.ints t low) refl) f
 
+  fit_looped : (h : Here) (b : Bool) → Stands h b → (t : ℕ) (s : Stmt) (step later plain' : Code) → t < n → Fit (record h { in_loop = true }) step → Fit (record h { in_loop = true }) later → Fit (record h { in_loop = true }) plain' → Fit h (looped t s step later plain')
+  fit_looped h b st t (block no_stmts) step later plain' low f k q = fit_forever h (block_of plain') st.plain (fit_block (record h { in_loop = true }) plain' q)
+  fit_looped h b st t s step later plain' low f k q = fit_flagged h b st t (step_in t s step) later low (fit_step (record h { in_loop = true }) true (in_loop h b st) t low s step f) k
+
   some_result : (t : Ty) → t ≢ ty.Void → kind_of_result t ≡ Some (kind_of t)
   some_result ty.Void e = absurd (e refl)
   some_result ty.Bool e = refl
@@ -70,7 +74,7 @@ module _ (a : Around) (l : Layout) (name : ℕ → List ℕ) (n : ℕ) (result :
   mutual
     pub stmt_fits : (s : Stmt) (h : Here) (b : Bool) (known : List ℕ) (t : ℕ) → Stands h b → IsLoweredStmt a s → IsValidStmt a result b known s → t + reach_stmt s ≤ n → Fit h (lowered_stmt a l name t s)
     stmt_fits (block ss) h b known t st low valid le = stmts_fit ss h b known t st low valid le
-    stmt_fits (run e) h b known t st low valid le = expr_fits h a l name n st.declares known e t low valid le
+    stmt_fits (run e) h b known t st low valid le = effect_fits h a l name n st.declares known e t low valid le
     stmt_fits (if_else e ss ts) h b known t st low valid le =
         fit_then h (lowered a l name t e) _ (expr_fits h a l name n st.declares known e t low.0 valid.0.1 (omega arith))
         (if_fits h (i_ t) _ _ (st.declares.ints t (omega (arith, reach_some e))) (stmts_fit ss h b known t st low.1 valid.1 (omega arith)) (stmts_fit ts h b known t st low.2 valid.2 (omega arith)))
@@ -88,10 +92,12 @@ module _ (a : Around) (l : Layout) (name : ℕ → List ℕ) (n : ℕ) (result :
     stmt_fits (for_do e s ss) h b known t st low valid le =
         let inner = record h { in_loop = true } in
         let si = in_loop h b st in
-        fit_flagged h b st t _ _ (omega arith)
-        (fit_step inner true si t (omega arith) s (lowered_stmt a l name (suc t) s) (stmt_fits s inner true known (suc t) si low.1 valid.2 (omega arith)))
+        fit_looped h b st t s _ _ _ (omega arith)
+        (stmt_fits s inner true known (suc t) si low.1 valid.2 (omega arith))
         (fit_then inner (lowered a l name (suc t) e) _ (expr_fits inner a l name n si.declares known e (suc t) low.0 valid.0.1 (omega arith))
         (fit_then inner (break_unless (i_ (suc t))) _ (fit_unless inner true si refl (suc t) (omega (arith, reach_some e))) (stmts_fit ss inner true known (suc t) si low.2 valid.3 (omega arith))))
+        (fit_then inner (lowered a l name t e) _ (expr_fits inner a l name n si.declares known e t low.0 valid.0.1 (omega arith))
+        (fit_then inner (break_unless (i_ t)) _ (fit_unless inner true si refl t (omega (arith, reach_some e))) (stmts_fit ss inner true known t si low.2 valid.3 (omega arith))))
     stmt_fits break h b known t st low valid le = fit_break h (st.loop valid)
     stmt_fits continue h b known t st low valid le = fit_continue h (st.loop valid)
     stmt_fits return_nothing h b known t st low valid le = fit_leave h (st.gives ∙ ap kind_of_result valid)

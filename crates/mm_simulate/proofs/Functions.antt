@@ -274,9 +274,9 @@ module _ (p : Program) (callable : Function → Bool) (l : Layout) (name_of : �
         ap (λ (k : c.Kinds). c.with_kinds variables k) (param_kinds 0 (argument_types p.classes f) c.no_kinds)
         ∙ local_kinds (length (argument_types p.classes f)) f.locals (map temporary_local ds) (put_all 0 (map kind_of (argument_types p.classes f)) c.no_kinds)
         ∙ ap (λ (k : c.Kinds). c.with_kinds (map temporary_local ds) k) (sym (
-            ap (λ ks. put_all 0 ks c.no_kinds) (map_append (argument_types p.classes f) f.locals)
-            ∙ put_append 0 (map kind_of (argument_types p.classes f)) (map kind_of f.locals) c.no_kinds
-            ∙ ap (λ n. put_all n (map kind_of f.locals) (put_all 0 (map kind_of (argument_types p.classes f)) c.no_kinds)) (let e = map_count (argument_types p.classes f) in omega arith)))
+        ap (λ ks. put_all 0 ks c.no_kinds) (map_append (argument_types p.classes f) f.locals)
+        ∙ put_append 0 (map kind_of (argument_types p.classes f)) (map kind_of f.locals) c.no_kinds
+        ∙ ap (λ n. put_all n (map kind_of f.locals) (put_all 0 (map kind_of (argument_types p.classes f)) c.no_kinds)) (let e = map_count (argument_types p.classes f) in omega arith)))
 
     kind_is : (x : ℕ) → x < length (local_types p.classes f) → declared (v_ x) ≡ kind_of (type_at (local_types p.classes f) x)
     kind_is x low =

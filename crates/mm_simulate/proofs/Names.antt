@@ -82,7 +82,7 @@ pub is_false : (b : Bool) → (b ≡ true → ⊥) → b ≡ false
 is_false true h = absurd (h refl)
 is_false false h = refl
 
-one_name : (p q : Place) → named p ≡ named q → same p q ≡ true
+pub one_name : (p q : Place) → named p ≡ named q → same p q ≡ true
 unfolding tail_of head_of
 one_name (local x) (local y) e = eq-eqb x y (numeral_injective x y (ap tail_of e))
 one_name (local x) (temporary k t) e = absurd (local_letter k (sym (ap head_of e)))

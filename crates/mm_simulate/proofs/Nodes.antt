@@ -12,22 +12,20 @@ use Rattle.mm_meaning.specs.Run as runs
 use Rattle.mm_meaning.specs.Run.{Run, Gives, Stops}
 use Rattle.mm_classes.specs.declared.class.Ty.{Ty}
 use Rattle.mm_classes.specs.declared.class.Ty.TheVariants as ty
-use Rattle.mm_classes.specs.Subobjects.{Path}
 use Rattle.mm_core.specs.declared.part.Operator.{Operator}
 use Rattle.mm_core.specs.declared.part.Target.{Target}
 use Rattle.mm_core.specs.declared.part.Target.TheVariants as to
 use Rattle.mm_core.specs.declared.part.Change.{Change}
 use Rattle.mm_core.specs.declared.part.Change.TheVariants.{Up, Down}
-use Rattle.mm_core.specs.Tree.{Expr, int, unsigned, bool, local, set_local, field, convert, binary, negation, both, either, choose, call, builtin, step_local, Exprs, no_exprs, expr_and}
-use Rattle.mm_core.specs.Heads.{type_at, is_reference, argument_types, class_in, same_type, class_shown, field_type}
+use Rattle.mm_core.specs.Tree.{Expr, int, unsigned, bool, local, set_local, convert, binary, negation, both, either, choose, call, builtin, step_local, Exprs, no_exprs, expr_and}
+use Rattle.mm_core.specs.Heads.{type_at, is_reference, argument_types, class_in, same_type}
 use Rattle.mm_core.specs.State as source
 use Rattle.mm_core.specs.State.{Value, Truth, Number, Word, Null, At, Nothing, Object, State, Store, with_local, or_trap, outside, at_once, object_at, class_of}
 use Rattle.mm_core.specs.Scalar.{is_true, converted, operate, changed, number_or}
-use Rattle.mm_core.specs.Objects.{get_field}
 use Rattle.mm_core.specs.Virtual.{Calls}
-use Rattle.mm_core.specs.Meaning.{Setting, ask, answered, does, put_local, value_of, values_of}
-use Rattle.mm_core.specs.Valid.{type_of, types_of, type_of_target, compares, is_number, is_arithmetic, is_pointer, as_pointer, types_asked, type_answered, result_of_function, Suits, AllSuit, AreOperands, Converts, AreBranches, IsValid, AreValid, IsFieldOf}
-use Rattle.mm_core.specs.Fits.{Shows, Fits, AllFit}
+use Rattle.mm_core.specs.Meaning.{Setting, ask, answered, put_local, value_of, values_of}
+use Rattle.mm_core.specs.Valid.{type_of, types_of, type_of_target, compares, is_number, is_arithmetic, is_pointer, as_pointer, types_asked, type_answered, result_of_function, Suits, AllSuit, AreOperands, Converts, AreBranches, IsValid, AreValid}
+use Rattle.mm_core.specs.Fits.{Fits, AllFit}
 use Rattle.mm_core.proofs.Scalars.{converted_fits}
 use Rattle.mm_core.proofs.Heap.{suits_fits}
 use Rattle.mm_core.specs.Keeps.{On, Known, Gave}
@@ -39,18 +37,18 @@ use Rattle.mm_c.specs.declared.tree.CAtom.{CAtom}
 use Rattle.mm_c.specs.declared.tree.CAtom.TheVariants.{Name, Least, Negative}
 use Rattle.mm_c.specs.declared.tree.COperator.TheVariants as o
 use Rattle.mm_c.specs.declared.tree.CExpr.{CExpr}
-use Rattle.mm_c.specs.declared.tree.CExpr.TheVariants.{Atom, Binary, ToInt, ToUnsigned, Load}
+use Rattle.mm_c.specs.declared.tree.CExpr.TheVariants.{Atom, Binary, ToInt, ToUnsigned}
 use Rattle.mm_c.specs.declared.tree.CCall.TheVariants.{Named}
-use Rattle.mm_c.specs.Memory as memory
+use Rattle.mm_c.specs.Tree as tree
 use Rattle.mm_c.specs.CMeaning as c
 use Rattle.mm_c.specs.CMeaning.{bit_of, Flow, Next, flows_of}
-use Rattle.mm_c.specs.Tree.{Code, done, ◌⨾◌}
-use Rattle.mm_agree.specs.Agree.{Agree, both_give, both_stop, kind_of, cell_of, result_in_c, States, OneWorld, SameResult, Alike, CallsAgree, HasPrelude}
+use Rattle.mm_c.specs.Tree.{Code, done, ◌⨾◌, just}
+use Rattle.mm_agree.specs.Agree.{Agree, both_give, both_stop, kind_of, result_in_c, States, OneWorld, SameResult, Alike, CallsAgree, HasPrelude}
 use Rattle.mm_agree.proofs.Values.{received, fits_stands}
 use Rattle.mm_agree.proofs.Steps.{SameWorld, AgreeOn, after, agree_weaken, agree_on, agree_map, either_code, if_last, only_last, agree_ran, gives_ran, set_ran, copy_gives, op_gives, with_value}
 use Rattle.mm_simulate.specs.Names.{temporary, named}
 use Rattle.mm_simulate.specs.Names as name
-use Rattle.mm_simulate.specs.Lowered.{plain, word, bit, greatest, int_atom, i_, u_, p_, v_, of_, set, only_if, if_or, operator, conversion, zero_atom, step_end, change_in_c, step_code, overflow_if, called_for, builtin_name, atoms_from, lowered, lowered_all, IsLowered, AreLowered}
+use Rattle.mm_simulate.specs.Lowered.{plain, word, bit, greatest, int_atom, i_, u_, p_, v_, of_, set, only_if, if_or, operator, conversion, zero_atom, step_end, change_in_c, step_code, overflow_if, called_for, builtin_name, atoms_from, lowered, lowered_all, IsLowered, AreLowered, effect, step_only}
 use Rattle.mm_simulate.proofs.Names.{written, kept, apart_number}
 use Rattle.mm_simulate.proofs.Ints.{least_int, greatest_int, bounds}
 use Rattle.mm_simulate.proofs.Stores.{Frame, is_void, g, a, c_value, Stores, Keeps, Holds, holds_written, set_agrees, still, stores_on, stores_local, keeps_local, received_at, received_by, core}
@@ -248,11 +246,14 @@ module _ (m : Frame) (calls : Calls) (around : c.Around) (has : HasPrelude aroun
       let n = c_value m s1.state.objects v in
       gives_ran around _ (put_local x v s1 k1) (set (v_ x) (Atom (Name (of_ (type_of (a m) e) t)))) u1 k1
       (set_ran around (v_ x) (Atom (Name (of_ (type_of (a m) e) t))) n u1 k1 (copy_gives around u1 k1 (Name (of_ (type_of (a m) e) t)) n (p.0.value (solid (type_of (a m) e) (type_at m.types x) valid.1))) (received_by m s1.state.objects x v s1 u1 valid.0 p.0.stores fits))
-      (both_give (refl, record {
-        value = λ void. kept u1.names (name.local x) (temporary (kind_of (type_at m.types x)) t) n refl ∙ value_at t u.names (type_of (a m) e) (type_at m.types x) v s1 u1 is void p.0;
-        kept = keeps_local m x n t u.names u1 p.0.kept;
-        stores = stores_local m x v s1 u1 (fits_stands (g m) m.layout s1.state.objects (type_at m.types x) v fits) p.0.stores;
-      })))
+      (both_give (
+        refl,
+        record {
+          value = λ void. kept u1.names (name.local x) (temporary (kind_of (type_at m.types x)) t) n refl ∙ value_at t u.names (type_of (a m) e) (type_at m.types x) v s1 u1 is void p.0;
+          kept = keeps_local m x n t u.names u1 p.0.kept;
+          stores = stores_local m x v s1 u1 (fits_stands (g m) m.layout s1.state.objects (type_at m.types x) v fits) p.0.stores;
+        },
+      )))
 
   -- ---- conversions
 
@@ -466,6 +467,14 @@ module _ (m : Frame) (calls : Calls) (around : c.Around) (has : HasPrelude aroun
     no_result _ _ (both_give {a = v} {s = s'} {t = u'} p) = both_give (refl, record { value = λ void. absurd (let z : ⊥ = cc in z); kept = keeps; stores = stores_on m s u s' u' p.1.grew p.0.states h })
     no_result _ _ (both_stop e) = both_stop e
 
+    -- a result that is not used
+    no_use : (type : Ty) (x : Run source.Stop State Value) (y : Run c.Stop c.State (Option CValue)) → Agree OneWorld (λ v s' r u'. SameResult (g m) m.layout type v s' r u' × Gave (g m) type s.state v s') x y → AgreeOn (λ v s' u'. Keeps m t old u' × Stores m s' u') (runs.within (λ s'. record { locals = s.locals; state = s' }) x) (runs.then (runs.then (runs.within (λ u'. record { names = u.names; kinds = u.kinds; state = u' }) y) (λ r. runs.pure Next)) (λ flow. c.unless_left flow (flows_of around done)))
+    no_use type _ _ (both_give {a = v} {s = s'} {t = u'} p) = both_give (refl, (keeps, stores_on m s u s' u' p.1.grew p.0.states h))
+    no_use type _ _ (both_stop e) = both_stop e
+
+    ran_agrees : (type : Ty) (f : List ℕ) (atoms : List CAtom) (vs : List CValue) (k : ℕ) (x : source.From State Value) → map (c.atom_of u.names) atoms ≡ vs → Alike (g m) m.layout type (x s.state k) (around.call f vs u.state k) → On (Gave (g m) type s.state) (x s.state k) → AgreeOn (λ v s' u'. Keeps m t old u' × Stores m s' u') (outside x s k) (flows_of around (just (tree.run (Named f atoms))) u k)
+    ran_agrees type f atoms vs k x e alike gave = rw e (no_use type _ _ (agree_on (Gave (g m) type s.state) alike gave))
+
     called_agrees : (type : Ty) (f : List ℕ) (atoms : List CAtom) (vs : List CValue) (k : ℕ) (x : source.From State Value) → map (c.atom_of u.names) atoms ≡ vs → Alike (g m) m.layout type (x s.state k) (around.call f vs u.state k) → On (Gave (g m) type s.state) (x s.state k) → AgreeOn (Holds m t old type) (outside x s k) (flows_of around (called_for t type (Named f atoms)) u k)
     called_agrees ty.Void f atoms vs k x e alike gave = rw e (no_result _ _ (agree_on (Gave (g m) ty.Void s.state) alike gave))
     called_agrees ty.Bool f atoms vs k x e alike gave = rw e (put_result ty.Bool (λ n. refl) _ _ (agree_on (Gave (g m) ty.Bool s.state) alike gave))
@@ -581,16 +590,19 @@ module _ (m : Frame) (calls : Calls) (around : c.Around) (has : HasPrelude aroun
         (trap_unless around has _ (step_rest x (Number z) s k (number_or (int_of (stepped change z)))) s u2 k by.Overflow (suc t) b last refl test.bit h2.states.world
         (λ d. rw (step_over (stepped change z) d) refl)
         (λ d.
-            let int = unflip (is_int (stepped change z)) d in
-            let v = Number (stepped change z) in
-            rw (step_ok (stepped change z) int)
-            (gives_ran around _ (step_rest x (Number z) s k (Ok v)) last u2 k
-            (set_ran around (v_ x) (Binary (Name (v_ x)) (change_in_c change) (plain 1)) (holds.Int (stepped change z)) u2 k (int_op around (suc t) k u2 (Name (v_ x)) (plain 1) (change_in_c change) z (pos 1) (holds.Int (stepped change z)) e2 refl (step_gives change z ∙ exact_some (stepped change z) int)) (received_by m s.state.objects x (Number (stepped change z)) s u2 low h2 (subst (λ y. Fits (g m) s.state.objects y (Number (stepped change z))) (sym is) int)))
-            (both_give (refl, record {
-              value = λ void. kept u2.names (name.local x) (temporary kind.Int t) (holds.Int (stepped change z)) refl ∙ at2;
-              kept = keeps_local m x (holds.Int (stepped change z)) t u.names u2 keeps2;
-              stores = stores_local m x v s u2 tt h2;
-            })))))))
+        let int = unflip (is_int (stepped change z)) d in
+        let v = Number (stepped change z) in
+        rw (step_ok (stepped change z) int)
+        (gives_ran around _ (step_rest x (Number z) s k (Ok v)) last u2 k
+        (set_ran around (v_ x) (Binary (Name (v_ x)) (change_in_c change) (plain 1)) (holds.Int (stepped change z)) u2 k (int_op around (suc t) k u2 (Name (v_ x)) (plain 1) (change_in_c change) z (pos 1) (holds.Int (stepped change z)) e2 refl (step_gives change z ∙ exact_some (stepped change z) int)) (received_by m s.state.objects x (Number (stepped change z)) s u2 low h2 (subst (λ y. Fits (g m) s.state.objects y (Number (stepped change z))) (sym is) int)))
+        (both_give (
+          refl,
+          record {
+            value = λ void. kept u2.names (name.local x) (temporary kind.Int t) (holds.Int (stepped change z)) refl ∙ at2;
+            kept = keeps_local m x (holds.Int (stepped change z)) t u.names u2 keeps2;
+            stores = stores_local m x v s u2 tt h2;
+          },
+        )))))))
 
     word_end : (change : Change) (n : ℕ) (u1 : c.Store) → Holds m t u.names ty.Unsigned (Word n) s u1 → u1.names (v_ x) ≡ holds.Unsigned n → AgreeOn (Holds m t u.names ty.Unsigned) (step_rest x (Word n) s k (changed change (Word n))) (flows_of around (set (v_ x) (Binary (Name (v_ x)) (change_in_c change) (word 1))) u1 k)
     word_end Up n u1 p e1 = gives_ran around _ (step_rest x (Word n) s k (changed Up (Word n))) _ u1 k (set_ran around (v_ x) (Binary (Name (v_ x)) o.Add (word 1)) _ u1 k (op_gives around u1 k (Name (v_ x)) (word 1) o.Add (holds.Unsigned n) (holds.Unsigned 1) _ e1 refl refl) refl)
@@ -606,6 +618,7 @@ module _ (m : Frame) (calls : Calls) (around : c.Around) (has : HasPrelude aroun
         let last = set (v_ x) (Binary (Name (v_ x)) (change_in_c change) (word 1)) in
         agree_ran around _ _ (set (u_ t) (Atom (Name (v_ x)))) last u k (set_ran around (u_ t) (Atom (Name (v_ x))) (holds.Unsigned n) u k (copy_gives around u k (Name (v_ x)) (holds.Unsigned n) e) refl)
         (word_end change n u1 first e1)
+
     step_at : (type : Ty) (v : Value) → type_at m.types x ≡ type → IsTrue (is_number type) → Fits (g m) s.state.objects type v → u.names (v_ x) ≡ c_value m s.state.objects v → AgreeOn (Holds m t u.names type) (step_rest x v s k (changed change v)) (flows_of around (step_code t x change type) u k)
     step_at ty.Int (Number z) is n f e = step_int_agrees z is f e
     step_at ty.Unsigned (Word y) is n f e = step_word_agrees y f e
@@ -614,6 +627,43 @@ module _ (m : Frame) (calls : Calls) (around : c.Around) (has : HasPrelude aroun
     step_at (ty.Ptr d) v is n f e = absurd (no_number (ty.Ptr d) n refl)
     step_at (ty.Ref d) v is n f e = absurd (no_number (ty.Ref d) n refl)
     step_at type v is n f e = absurd f
+
+    -- the step alone
+    int_effect : (z : ℤ) → type_at m.types x ≡ ty.Int → IsTrue (is_int z) → u.names (v_ x) ≡ holds.Int z → AgreeOn (λ v s' u'. Keeps m t u.names u' × Stores m s' u') (step_rest x (Number z) s k (changed change (Number z))) (flows_of around (step_only t x change ty.Int) u k)
+    int_effect z is f e =
+        let b = not (is_int (stepped change z)) in
+        let test = tested_set around t k u (Binary (Name (v_ x)) o.Equal (step_end change)) b (int_op around t k u (Name (v_ x)) (step_end change) o.Equal z (step_int change) (holds.Int (bit_of b)) e (step_atom change u.names) (step_bit change z f)) (h.ints t) in
+        let u2 = test.after in
+        let h2 = stores_near m t s u u2 test.near h in
+        let e2 : u2.names (v_ x) ≡ holds.Int z = test.near.others (name.local x) refl ∙ e in
+        let keeps2 : Keeps m t u.names u2 = keeps_near m t t u.names u u2 (omega arith) test.near (λ j y l. refl) in
+        let last = set (v_ x) (Binary (Name (v_ x)) (change_in_c change) (plain 1)) in
+        rw (step_is change z)
+        (agree_ran around _ _ (set (i_ t) (Binary (Name (v_ x)) o.Equal (step_end change))) (overflow_if (i_ t) ⨾ last) u k test.ran
+        (trap_unless around has _ (step_rest x (Number z) s k (number_or (int_of (stepped change z)))) s u2 k by.Overflow t b last refl test.bit h2.states.world
+        (λ d. rw (step_over (stepped change z) d) refl)
+        (λ d.
+        let int = unflip (is_int (stepped change z)) d in
+        let v = Number (stepped change z) in
+        rw (step_ok (stepped change z) int)
+        (gives_ran around _ (step_rest x (Number z) s k (Ok v)) last u2 k
+        (set_ran around (v_ x) (Binary (Name (v_ x)) (change_in_c change) (plain 1)) (holds.Int (stepped change z)) u2 k (int_op around t k u2 (Name (v_ x)) (plain 1) (change_in_c change) z (pos 1) (holds.Int (stepped change z)) e2 refl (step_gives change z ∙ exact_some (stepped change z) int)) (received_by m s.state.objects x (Number (stepped change z)) s u2 low h2 (subst (λ y. Fits (g m) s.state.objects y (Number (stepped change z))) (sym is) int)))
+        (both_give (refl, (keeps_local m x (holds.Int (stepped change z)) t u.names u2 keeps2, stores_local m x v s u2 tt h2)))))))
+
+    word_effect : (change : Change) (n : ℕ) → u.names (v_ x) ≡ holds.Unsigned n → AgreeOn (λ v s' u'. Keeps m t u.names u' × Stores m s' u') (step_rest x (Word n) s k (changed change (Word n))) (flows_of around (set (v_ x) (Binary (Name (v_ x)) (change_in_c change) (word 1))) u k)
+    word_effect Up n e1 = gives_ran around _ (step_rest x (Word n) s k (changed Up (Word n))) _ u k (set_ran around (v_ x) (Binary (Name (v_ x)) o.Add (word 1)) _ u k (op_gives around u k (Name (v_ x)) (word 1) o.Add (holds.Unsigned n) (holds.Unsigned 1) _ e1 refl refl) refl)
+        (both_give (refl, (keeps_local m x _ t u.names u (λ j y l. refl), stores_local m x (Word ((n + 1) % 2 ^ 32)) s u tt h)))
+    word_effect Down n e1 = gives_ran around _ (step_rest x (Word n) s k (changed Down (Word n))) _ u k (set_ran around (v_ x) (Binary (Name (v_ x)) o.Subtract (word 1)) _ u k (op_gives around u k (Name (v_ x)) (word 1) o.Subtract (holds.Unsigned n) (holds.Unsigned 1) _ e1 refl refl) refl)
+        (both_give (refl, (keeps_local m x _ t u.names u (λ j y l. refl), stores_local m x (Word ((n + (2 ^ 32 - 1)) % 2 ^ 32)) s u tt h)))
+
+    effect_at : (type : Ty) (v : Value) → type_at m.types x ≡ type → IsTrue (is_number type) → Fits (g m) s.state.objects type v → u.names (v_ x) ≡ c_value m s.state.objects v → AgreeOn (λ v s' u'. Keeps m t u.names u' × Stores m s' u') (step_rest x v s k (changed change v)) (flows_of around (step_only t x change type) u k)
+    effect_at ty.Int (Number z) is n f e = int_effect z is f e
+    effect_at ty.Unsigned (Word y) is n f e = word_effect change y e
+    effect_at ty.Void v is n f e = absurd (no_number ty.Void n refl)
+    effect_at ty.Bool v is n f e = absurd (no_number ty.Bool n refl)
+    effect_at (ty.Ptr d) v is n f e = absurd (no_number (ty.Ptr d) n refl)
+    effect_at (ty.Ref d) v is n f e = absurd (no_number (ty.Ref d) n refl)
+    effect_at type v is n f e = absurd f
 
   step_local_agrees : (x : ℕ) (change : Change) → Claim (step_local x change)
   step_local_agrees x change t s u k low valid fine h = step_at t x change s u k valid.0 fine h (type_at m.types x) (s.locals x) refl valid.1 (number_local_fits x s valid.0 valid.1 fine) (h.same x valid.0)
@@ -624,27 +674,39 @@ module _ (m : Frame) (calls : Calls) (around : c.Around) (has : HasPrelude aroun
           no_reference : (t : Ty) → IsTrue (is_number t) → IsTrue (is_reference t) → ⊥
           no_reference t n r = reference_is t n r
 
-  -- ---- fields
+  -- ---- expressions whose values are not used
 
-  -- a field of the subobject that a pointer shows, whose class is that of the pointer
-  field_at : (t f d o' : ℕ) (q : Path) (old : c.Names) (s : Store) (u : c.Store) (k : ℕ) → IsFine s → Stores m s u → Keeps m t old u → Shows (g m) s.state.objects d o' q → IsFieldOf (g m) d f → u.names (p_ t) ≡ c_value m s.state.objects (At o' q) → AgreeOn (Holds m t old (field_type (g m) d f)) (does (get_field f (At o' q)) s k) (flows_of around (set (of_ (field_type (g m) d f) t) (Load (cell_of (field_type (g m) d f)) (record { pointer = p_ t; offset = record { value = m.layout.member d f; is_unsigned = false } }))) u k)
-  field_at t f d o' q old s u k fine h keeps shows is e =
-      let at = h.states.heap.each o' shows.there in
-      let loaded : memory.load u.state.memory (cell_of (field_type (g m) d f)) (u.names (p_ t)) (m.layout.member d f) ≡ Some (c_value m s.state.objects ((object_at s.state.objects o').fields q f)) =
-          rw e (rw at.1 (subst (λ z. memory.load_in (cell_of (field_type (g m) z f)) (m.layout.offset (class_of s.state.objects o') q + m.layout.member z f) (Some at.0) ≡ Some (c_value m s.state.objects ((object_at s.state.objects o').fields q f))) shows.ends (at.2.cell q f shows.part (subst (λ z. IsFieldOf (g m) z f) (sym shows.ends) is)))) in
-      let fits : Fits (g m) s.state.objects (field_type (g m) d f) ((object_at s.state.objects o').fields q f) = subst (λ z. Fits (g m) s.state.objects (field_type (g m) z f) ((object_at s.state.objects o').fields q f)) shows.ends (fine.state.fields o' f q shows.there shows.part) in
-      set_agrees m around t old (field_type (g m) d f) ((object_at s.state.objects o').fields q f) s u k (Load (cell_of (field_type (g m) d f)) (record { pointer = p_ t; offset = record { value = m.layout.member d f; is_unsigned = false } })) (one_gives t old s u k keeps h _ _ loaded) fits keeps h
+  abbrev pub EffectClaim : Expr → Type 0
+  EffectClaim e = (t : ℕ) (s : Store) (u : c.Store) (k : ℕ) → IsLowered (a m) e → IsValid (a m) known e → IsFine s → Stores m s u → AgreeOn (λ v s' u'. Keeps m t u.names u' × Stores m s' u') (value_of w e s k) (flows_of around (effect (a m) m.layout m.name_of t e) u k)
 
-  field_value : (t f d : ℕ) (v : Value) (old : c.Names) (s : Store) (u : c.Store) (k : ℕ) → IsFine s → Stores m s u → Keeps m t old u → Fits (g m) s.state.objects (ty.Ref d) v → IsFieldOf (g m) d f → u.names (p_ t) ≡ c_value m s.state.objects v → AgreeOn (Holds m t old (field_type (g m) d f)) (does (get_field f v) s k) (flows_of around (set (of_ (field_type (g m) d f) t) (Load (cell_of (field_type (g m) d f)) (record { pointer = p_ t; offset = record { value = m.layout.member d f; is_unsigned = false } }))) u k)
-  field_value t f d (At o' q) old s u k fine h keeps fits is e = field_at t f d o' q old s u k fine h keeps fits is e
-  field_value t f d v old s u k fine h keeps fits is e = absurd fits
+  call_effect : (f : ℕ) (es : Exprs) → ClaimAll es → EffectClaim (call f es)
+  call_effect f es ih t s u k low valid fine h =
+      after around (code_all t es) _ _ _ _ _ u k (full_all es ih t s u k low valid.1 fine h) (λ vs s1 u1 k1 p.
+      let c' = valid.0 in
+      let is : type_of (a m) (call f es) ≡ c'.0.result = ap result_of_function c'.1 in
+      let fits = all_suit (core m calls) known ok s1.state.objects (types_of (a m) es) (argument_types (g m) c'.0) vs c'.4 p.1.fits in
+      ran_agrees t u.names s1 u1 p.0.kept p.0.stores (type_of (a m) (call f es)) (m.name_of f) (atoms_from (a m) m.layout m.name_of t es) (map (c_value m s1.state.objects) vs) k1 (calls f vs)
+      (p.0.values (all_solid (types_of (a m) es) (argument_types (g m) c'.0) c'.4))
+      (subst (λ z. Alike (g m) m.layout z (calls f vs s1.state k1) (around.call (m.name_of f) (map (c_value m s1.state.objects) vs) u1.state k1)) (sym is) (agree.by f c'.0 vs s1.state u1.state k1 tt c'.1 c'.2 c'.3 fits p.1.fine.state p.0.stores.states))
+      (subst (λ z. On (Gave (g m) z s1.state) (calls f vs s1.state k1)) (sym is) (ok.calls_fit f c'.0 vs s1.state k1 c'.1 c'.2 c'.3 p.1.fine.state fits)))
 
-  field_agrees : (f : ℕ) (e : Expr) → Claim e → Claim (field f e)
-  field_agrees f e ih t s u k low valid fine h =
-      after around (code t e) _ _ _ _ _ u k (full e ih t s u k low valid.1 fine h) (λ v s1 u1 k1 p.
-      let d = valid.0.0 in let is : type_of (a m) e ≡ ty.Ref d = valid.0.1.0 in
-      subst (λ z. AgreeOn (Holds m t u.names (field_type (g m) (class_shown z) f)) (does (get_field f v) s1 k1) (flows_of around (set (of_ (field_type (g m) (class_shown z) f) t) (Load (cell_of (field_type (g m) (class_shown z) f)) (record { pointer = p_ t; offset = record { value = m.layout.member (class_shown z) f; is_unsigned = false } }))) u1 k1)) (sym is)
-      (field_value t f d v u.names s1 u1 k1 p.1.fine p.0.stores p.0.kept (as_fits (type_of (a m) e) (ty.Ref d) s1.state.objects v is p.1.fits) valid.0.2 (value_at t u.names (type_of (a m) e) (ty.Ref d) v s1 u1 (is_same _ _ is) refl p.0)))
+  builtin_effect : (b : Builtin) (es : Exprs) → ClaimAll es → EffectClaim (builtin b es)
+  builtin_effect b es ih t s u k low valid fine h =
+      after around (code_all t es) _ _ _ _ _ u k (full_all es ih t s u k low valid.1 fine h) (λ vs s1 u1 k1 p.
+      let fits = all_suit (core m calls) known ok s1.state.objects (types_of (a m) es) (types_asked b) vs valid.0 p.1.fits in
+      ran_agrees t u.names s1 u1 p.0.kept p.0.stores (type_answered b) (builtin_name b) (atoms_from (a m) m.layout m.name_of t es) (map (c_value m s1.state.objects) vs) k1 (at_once (ask b vs))
+      (p.0.values (all_solid (types_of (a m) es) (types_asked b) valid.0))
+      (rw (asks b (map (c_value m s1.state.objects) vs)) (builtin_alike s1.state u1.state k1 p.0.stores.states b vs fits))
+      (operated (core m calls) known (type_answered b) s1.state (ask b vs s1.state) k1 (ask_operates (core m calls) known ok b vs s1.state p.1.fine.state)))
+
+  step_effect : (x : ℕ) (change : Change) → EffectClaim (step_local x change)
+  step_effect x change t s u k low valid fine h = effect_at t x change s u k valid.0 fine h (type_at m.types x) (s.locals x) refl valid.1 (number_local_fits x s valid.0 valid.1 fine) (h.same x valid.0)
+    where
+      number_local_fits : (x : ℕ) (s : Store) → x < length m.types → IsTrue (is_number (type_at m.types x)) → IsFine s → Fits (g m) s.state.objects (type_at m.types x) (s.locals x)
+      number_local_fits x s low n fine = fine.locals x low (λ r. absurd (no_reference (type_at m.types x) n r))
+        where
+          no_reference : (t : Ty) → IsTrue (is_number t) → IsTrue (is_reference t) → ⊥
+          no_reference t n r = reference_is t n r
 
   -- ---- all nodes
 
@@ -655,7 +717,6 @@ module _ (m : Frame) (calls : Calls) (around : c.Around) (has : HasPrelude aroun
     expr_agrees (bool b) = bool_agrees b
     expr_agrees (local x) = local_agrees x
     expr_agrees (set_local x e) = set_local_agrees x e (expr_agrees e)
-    expr_agrees (field f e) = field_agrees f e (expr_agrees e)
     expr_agrees (convert x e) = convert_node_agrees x e (expr_agrees e)
     expr_agrees (binary op d e) = binary_agrees op d e (expr_agrees d) (expr_agrees e)
     expr_agrees (negation e) = negation_agrees e (expr_agrees e)
@@ -670,3 +731,12 @@ module _ (m : Frame) (calls : Calls) (around : c.Around) (has : HasPrelude aroun
     pub exprs_agree : (es : Exprs) → ClaimAll es
     exprs_agree no_exprs = λ t s u k low valid fine h. both_give (refl, record { values = λ solid'. refl; kept = λ j x below. refl; stores = h })
     exprs_agree (expr_and e es) = and_agrees e es (expr_agrees e) (exprs_agree es)
+
+  value_unused : (e : Expr) (t : ℕ) (s : Store) (u : c.Store) (k : ℕ) → IsLowered (a m) e → IsValid (a m) known e → IsFine s → Stores m s u → AgreeOn (λ v s' u'. Keeps m t u.names u' × Stores m s' u') (value_of w e s k) (flows_of around (code t e) u k)
+  value_unused e t s u k low valid fine h = agree_weaken (expr_agrees e t s u k low valid fine h) (λ v s' flow u' p. (p.0, (p.1.kept, p.1.stores)))
+
+  pub effect_agrees : (e : Expr) → EffectClaim e
+  effect_agrees (call f es) = call_effect f es (exprs_agree es)
+  effect_agrees (builtin b es) = builtin_effect b es (exprs_agree es)
+  effect_agrees (step_local x change) = step_effect x change
+  effect_agrees e = value_unused e

@@ -145,10 +145,10 @@ module _ (m : Frame) (around : Around) (has : HasPrelude around) (t : ℕ) (old 
         (trap_unless around has _ (or_trap rs s k) s first.after k by.Divide (suc (suc t)) (is_zero y) (minus_test (i_ t) (i_ (suc t)) (i_ (suc (suc t))) ⨾ unless_over op (i_ t) (i_ (suc t)) (i_ (suc (suc t))) (i_ t)) refl first.bit h1.stores.states.world
         (λ b. rw (f1 b) refl)
         (λ b.
-            let d = not (is_int (int_div x y)) in
-            let next = minus_tested around (suc (suc t)) k t (suc t) x y other_t other_n is_x is_y first.after d h1.two (λ n. minus_quotient x is_x ∙ ap (λ q. not (is_int (int_div x q))) (sym n)) (λ n. any_quotient x y is_x n) in
-            agree_ran around _ _ (minus_test (i_ t) (i_ (suc t)) (i_ (suc (suc t)))) (unless_over op (i_ t) (i_ (suc t)) (i_ (suc (suc t))) (i_ t)) first.after k next.ran
-            (over_agrees op z rs d next.after next.bit fits (λ q. f2 b (is_not _ q)) (λ q. (f3 b (is_is _ q), e ∙ divided_is x y z b (is_is _ q))) (known_near first.after next.after next.near h1))))
+        let d = not (is_int (int_div x y)) in
+        let next = minus_tested around (suc (suc t)) k t (suc t) x y other_t other_n is_x is_y first.after d h1.two (λ n. minus_quotient x is_x ∙ ap (λ q. not (is_int (int_div x q))) (sym n)) (λ n. any_quotient x y is_x n) in
+        agree_ran around _ _ (minus_test (i_ t) (i_ (suc t)) (i_ (suc (suc t)))) (unless_over op (i_ t) (i_ (suc t)) (i_ (suc (suc t))) (i_ t)) first.after k next.ran
+        (over_agrees op z rs d next.after next.bit fits (λ q. f2 b (is_not _ q)) (λ q. (f3 b (is_is _ q), e ∙ divided_is x y z b (is_is _ q))) (known_near first.after next.after next.near h1))))
 
     quotient_zero : is_zero y ≡ true → quotient x y ≡ Err by.Divide
     quotient_zero e = rw e refl

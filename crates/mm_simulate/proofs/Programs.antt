@@ -1,24 +1,21 @@
 -- The lowered program runs as the source does, at every bound.
 use Rattle.std.proofs.Common.{◌≡◌, ◌≢◌, ℕ, zero, suc, ◌<◌, List, [], ◌∷◌, ◌++◌, length, refl, sym, ap, ◌∙◌, subst, arith, map}
-use Rattle.std.specs.Prelude.{ℤ, Bool, true, false, ◌&&◌, not, IsTrue, nat_eq, if◌then◌else◌, codes, Option, Some, None, slice_get}
+use Rattle.std.specs.Prelude.{ℤ, Bool, true, false, IsTrue, nat_eq, if◌then◌else◌, codes, Option, Some, slice_get}
 use Rattle.std.specs.Str.{bytes_eq}
 use Rattle.std.proofs.lemmas.Bool.{eq-eqb}
 use Rattle.std.proofs.lemmas.Slice.Eq.{bytes_eq-Decides}
 use Rattle.mm_meaning.specs.Run.{Run}
-use Rattle.mm_classes.specs.declared.class.Ty.{Ty}
 use Rattle.mm_classes.specs.declared.class.Ty.TheVariants as ty
 use Rattle.mm_classes.specs.Lists.{Has, first, later}
-use Rattle.mm_core.specs.declared.part.CoreParam.{CoreParam}
-use Rattle.mm_core.specs.Tree.{Stmt, block, Function, Program}
-use Rattle.mm_core.specs.Heads.{same_type, is_main, has_params, is_open, argument_types}
+use Rattle.mm_core.specs.Tree.{Stmt, Function, Program}
+use Rattle.mm_core.specs.Heads.{is_main, is_open, argument_types}
 use Rattle.mm_core.specs.State as source
 use Rattle.mm_core.specs.State.{Value, State}
 use Rattle.mm_core.specs.Scalar.{int_value}
 use Rattle.mm_core.specs.Meaning.{call_of}
 use Rattle.mm_core.specs.Run as by
 use Rattle.mm_core.specs.Run.{number_of_main, source_run}
-use Rattle.mm_core.specs.ValidProgram.{around, numbers_below, IsValidFunction, BodyFits}
-use Rattle.mm_core.specs.Valid.{IsValidStmt}
+use Rattle.mm_core.specs.ValidProgram.{around, IsValidFunction}
 use Rattle.mm_core.specs.Fits.{Fits, AllFit, IsState}
 use Rattle.mm_core.specs.Keeps.{Known, Gave, inside}
 use Rattle.mm_agree.proofs.Steps.{agree_on, agree_weaken}
@@ -35,6 +32,7 @@ use Rattle.mm_agree.specs.Translates.{finish_in_c, outcome_in_c, IsInput, Transl
 use Rattle.mm_simulate.specs.Names.{function_named}
 use Rattle.mm_simulate.specs.Lowered.{Defined, is_defined, source_name, name_of, fn_of, item_of, head_of, entry, others, lowered_program, IsLoweredStmt}
 use Rattle.mm_simulate.proofs.Names.{is_false, function_name}
+use Rattle.mm_simulate.proofs.Main.{main_there, both_are, main_is, HasBody, body_of, main_arguments}
 use Rattle.mm_simulate.proofs.Defined.{defined_as, Apart, all_apart, complete}
 use Rattle.mm_simulate.proofs.Functions.{function_agrees}
 
@@ -83,78 +81,25 @@ module _ (p : Program) (l : Layout) (temps : ℕ → List (CKind × ℕ)) where
   -- ---- the main induction
 
   module _ (known : (n : ℕ) (f : Function) → Known (inside p callable (call_of p n) f)) (valid : (i : ℕ) (f : Function) → slice_get p.functions i ≡ Some f → IsValidFunction callable p f) (defined : (f : Function) → IsTrue (callable f) → f.defined ≡ true) (low : (i : ℕ) (f : Function) (b : Stmt) → slice_get p.functions i ≡ Some f → f.body ≡ Some b → IsLoweredStmt (around callable p f) b) where
-    record HasBody (f : Function) : Type 0 where
-      stmt : Stmt
-      is : f.body ≡ Some stmt
-      fits : IsValidStmt (around callable p f) f.result false (numbers_below (length (argument_types p.classes f))) stmt
-
-    body_of : (f : Function) (d : Bool) (o : Option Stmt) → d ≡ true → f.body ≡ o → BodyFits (around callable p f) f.result d o → HasBody f
-    body_of f true (Some (block ss)) e h v = record { stmt = block ss; is = h; fits = v }
-    body_of f true None e h v = absurd v
-    body_of f true (Some st) e h v = absurd v
-    body_of f false o e h v = cc
-
     -- the call of a function, and of its code
-    steps_agree : (n i : ℕ) (f : Function) (b : HasBody f) (vs : List Value) (s : State) (u : c.State) (k : ℕ) → CallsAgree p l callable (name_of p) (λ k. Unit {0}) (call_of p n) (c.around_all q (c.steps_of q n)) → slice_get p.functions i ≡ Some f → AllFit p.classes s.objects (argument_types p.classes f) vs → IsState p.classes s → States p.classes l s u → Alike p.classes l f.result (call_of p (suc n) i vs s k) (c.steps_of q (suc n) (fn_of p l temps (defined_as i f b.stmt)) (all_in_c l s.objects vs) u k)
+    steps_agree : (n i : ℕ) (f : Function) (b : HasBody p is_defined f) (vs : List Value) (s : State) (u : c.State) (k : ℕ) → CallsAgree p l callable (name_of p) (λ k. Unit {0}) (call_of p n) (c.around_all q (c.steps_of q n)) → slice_get p.functions i ≡ Some f → AllFit p.classes s.objects (argument_types p.classes f) vs → IsState p.classes s → States p.classes l s u → Alike p.classes l f.result (call_of p (suc n) i vs s k) (c.steps_of q (suc n) (fn_of p l temps (defined_as i f b.stmt)) (all_in_c l s.objects vs) u k)
     steps_agree n i f b vs s u zero agree e fits is states = both_stop states.world
     steps_agree n i f b vs s u (suc k) agree e fits is states =
         rw (e, b.is) (function_agrees p callable l (name_of p) (call_of p n) (c.around_all q (c.steps_of q n)) (prelude (c.steps_of q n)) f (known n f) agree i (nat_eq i (number_of_main p.functions)) b.stmt (temps i) (low i f b.stmt e b.is) b.fits vs s u k fits is states)
 
     pub calls_agree : (n : ℕ) → CallsAgree p l callable (name_of p) (λ k. Unit {0}) (call_of p n) (c.around_all q (c.steps_of q n))
-    calls_agree zero = record { by = λ i f vs s u k at e closed ok fits is states.
-        let b = body_of f f.defined f.body (defined f ok) refl (valid i f e).body in
-        rw (called (c.steps_of q 0) i f b.stmt (all_in_c l s.objects vs) e b.is) (both_stop states.world) }
-    calls_agree (suc n) = record { by = λ i f vs s u k at e closed ok fits is states.
-        let b = body_of f f.defined f.body (defined f ok) refl (valid i f e).body in
-        rw (called (c.steps_of q (suc n)) i f b.stmt (all_in_c l s.objects vs) e b.is) (steps_agree n i f b vs s u k (calls_agree n) e fits is states) }
+    calls_agree zero = record {
+      by = λ i f vs s u k at e closed ok fits is states.
+          let b = body_of p is_defined f f.defined f.body (defined f ok) refl (valid i f e).body in
+          rw (called (c.steps_of q 0) i f b.stmt (all_in_c l s.objects vs) e b.is) (both_stop states.world);
+    }
+    calls_agree (suc n) = record {
+      by = λ i f vs s u k at e closed ok fits is states.
+          let b = body_of p is_defined f f.defined f.body (defined f ok) refl (valid i f e).body in
+          rw (called (c.steps_of q (suc n)) i f b.stmt (all_in_c l s.objects vs) e b.is) (steps_agree n i f b vs s u k (calls_agree n) e fits is states);
+    }
 
     -- ---- runs of programs
-
-    abbrev IsThere : List Function → ℕ → Type 0
-    IsThere fs n = (f : Function) × (slice_get fs n ≡ Some f) × ((f.defined && is_main f) ≡ true)
-
-    there_at : (f : Function) (fs : List Function) (b : Bool) → (f.defined && is_main f) ≡ b → (number_of_main fs < length fs → IsThere fs (number_of_main fs)) → (if b then 0 else suc (number_of_main fs)) < suc (length fs) → IsThere (f ∷ fs) (if b then 0 else suc (number_of_main fs))
-    there_at f fs true e ih h = (f, refl, e)
-    there_at f fs false e ih h = let r = ih (omega arith) in (r.0, r.1, r.2)
-
-    main_there : (fs : List Function) → number_of_main fs < length fs → IsThere fs (number_of_main fs)
-    main_there [] h = absurd (let z : ⊥ = omega arith in z)
-    main_there (f ∷ fs) h = there_at f fs (f.defined && is_main f) refl (main_there fs) h
-
-    both_are : (x y : Bool) → (x && y) ≡ true → (x ≡ true) × (y ≡ true)
-    both_are true y e = (refl, e)
-    both_are false y e = cc
-
-    no_params : (qs : List CoreParam) → not (has_params qs) ≡ true → qs ≡ []
-    no_params [] e = refl
-    no_params (x ∷ qs) e = cc
-
-    is_not : (b : Bool) → not b ≡ true → b ≡ false
-    is_not true e = cc
-    is_not false e = refl
-
-    record IsMain (f : Function) : Type 0 where
-      member : f.member ≡ false
-      params : f.params ≡ []
-      result : f.result ≡ ty.Int
-
-    int_is : (t : Ty) → same_type t ty.Int ≡ true → t ≡ ty.Int
-    int_is ty.Int e = refl
-    int_is ty.Void e = cc
-    int_is ty.Bool e = cc
-    int_is ty.Unsigned e = cc
-    int_is (ty.Ptr d) e = let z : ⊥ = grind arith in absurd z
-    int_is (ty.Ref d) e = let z : ⊥ = grind arith in absurd z
-
-    main_is : (f : Function) → is_main f ≡ true → IsMain f
-    main_is f e =
-        let e1 = both_are (bytes_eq f.name (codes "main")) (not f.member && (not (has_params f.params) && same_type f.result ty.Int)) e in
-        let e2 = both_are (not f.member) (not (has_params f.params) && same_type f.result ty.Int) e1.1 in
-        let e3 = both_are (not (has_params f.params)) (same_type f.result ty.Int) e2.1 in
-        record { member = is_not f.member e2.0; params = no_params f.params e3.0; result = int_is f.result e3.1 }
-
-    main_arguments : (f : Function) → IsMain f → argument_types p.classes f ≡ []
-    main_arguments f h = rw (h.member, h.params) refl
 
     ended_same : (v : Value) (s : State) → Fits p.classes s.objects ty.Int v → run.ended_by (Some (in_c l s.objects v)) ≡ run.Ended (int_value v)
     ended_same (source.Number z) s f = refl
@@ -189,7 +134,7 @@ module _ (p : Program) (l : Layout) (temps : ℕ → List (CKind × ℕ)) where
           let f = there.0 in
           let is = both_are f.defined (is_main f) there.2 in
           let h = main_is f is.1 in
-          let fits : AllFit p.classes (by.starting input).objects (argument_types p.classes f) [] = subst (λ ts. AllFit p.classes [] ts []) (sym (main_arguments f h)) tt in
+          let fits : AllFit p.classes (by.starting input).objects (argument_types p.classes f) [] = subst (λ ts. AllFit p.classes [] ts []) (sym (main_arguments p is_defined f h)) tt in
           let alike = (calls_agree n).by (number_of_main p.functions) f [] (by.starting input) (run.starting input) n tt there.1 (closed _ f there.1) (all_defined f is.0) fits (begins input ints) (states_begin input) in
           let gave = (known n f).calls_fit (number_of_main p.functions) f [] (by.starting input) n there.1 (closed _ f there.1) (all_defined f is.0) (begins input ints) fits in
           ap (λ x. run.outcome_of (c.named_call q n x [] (run.starting input) n)) (sym main_name)

@@ -31,7 +31,7 @@ use Rattle.mm_simulate.specs.Lowered.{plain, block_of, i_, set, only_if, break_u
 use Rattle.mm_simulate.proofs.Names.{written}
 use Rattle.mm_simulate.proofs.Stores.{Frame, a, c_value, Stores, Keeps, Holds, stores_temporary, keeps_temporary, core}
 use Rattle.mm_simulate.proofs.Nodes as nodes
-use Rattle.mm_simulate.proofs.Nodes.{AllSolid, suits_same, Same, full, expr_agrees, bit_in, decided, not_void}
+use Rattle.mm_simulate.proofs.Nodes.{AllSolid, suits_same, Same, full, expr_agrees, bit_in, decided, not_void, effect_agrees}
 
 -- the same way on
 abbrev pub flow_in_c : Frame → Ty → List Object → Flow → c.Flow
@@ -108,7 +108,7 @@ module _ (m : Frame) (calls : Calls) (around : c.Around) (has : HasPrelude aroun
   stays t flow s u old keeps h = record { on = refl; kept = keeps; stores = h }
 
   run_agrees : (e : Expr) → Claim (run e)
-  run_agrees e in_loop known t s u k low valid fine h = agree_map (λ v. Next) (value_agrees known e t s u k low valid fine h) (λ v s1 flow u1 p. record { on = p.0; kept = p.1.0.kept; stores = p.1.0.stores })
+  run_agrees e in_loop known t s u k low valid fine h = agree_map (λ v. Next) (effect_agrees m calls around has known ok agree e t s u k low valid fine h) (λ v s1 flow u1 p. record { on = p.0; kept = p.1.0; stores = p.1.1 })
 
   if_agrees : (e : Expr) (ss ts : Stmts) → ClaimAll ss → ClaimAll ts → Claim (if_else e ss ts)
   if_agrees e ss ts ihs iht in_loop known t s u k low valid fine h =
@@ -252,7 +252,7 @@ module _ (m : Frame) (calls : Calls) (around : c.Around) (has : HasPrelude aroun
         from_body : (n : ℕ) → Loops n → (old : c.Names) (s : Store) (u : c.Store) (k : ℕ) → IsFine known s → Keeps m t old u → Stores m s u → Agree SameWorld (Did m result t old) (runs.then (body s k) (λ flow. next_turn flow (turns_from n before before body))) (runs.then (c.flows_of around (flag_set true ⨾ ys) u k) (λ flow. c.next_turn flow (c.turns n (c.flow_in around (block_of turn)))))
         from_body n ih old s u k fine keeps h =
             agree_then (agree_on (Going true [] known s) (agree_ran around (λ flow s1 flow' u1. Did m result t old flow s1 flow' u1 × Is true u1) (body s k) (flag_set true) ys u k (flag_ran s u true k h)
-              (agree_weaken (claim s (flag u true) k fine (flag_stores s u true h)) (λ flow s1 flow' u1 p. did_under true old flow s1 flow' (flag u true) u1 (flag_keeps old u true keeps) (written u.names (i_ t) (holds.Int (bit_of true))) p))) (fits s k fine))
+            (agree_weaken (claim s (flag u true) k fine (flag_stores s u true h)) (λ flow s1 flow' u1 p. did_under true old flow s1 flow' (flag u true) u1 (flag_keeps old u true keeps) (written u.names (i_ t) (holds.Int (bit_of true))) p))) (fits s k fine))
             (λ flow s1 flow' u1 k1 p. next_agrees t known (Is true) old (turns_from n before before body) (c.turns n (c.flow_in around (block_of turn))) (ih true old) s flow s1 flow' u1 k1 p.0.0 (λ q. p.0.1) p.1)
 
         -- behind what stands before it
@@ -290,9 +290,9 @@ module _ (m : Frame) (calls : Calls) (around : c.Around) (has : HasPrelude aroun
       (λ z j f. tested_went (core m calls) ok result known e (runs.pure Next) z j valid.1 f (λ y i q. nothing_fits known y i q))
       (λ z j f. flows_fit (core m calls) ok result ss true known z j valid.0 f)
       (λ s1 u1 k1 f1 h1 is.
-        (tested_agrees _ known (suc t) e (runs.pure Next) done s1 u1 k1 low.1 valid.1 f1 h1
-        (λ s2 u2 k2 f2 keeps2 h2. both_give (stays t Next s2 u2 u1.names (under u1.names u2 keeps2) h2, λ q. cc))
-        (λ s2 u2 keeps2 h2. (stays t Broke s2 u2 u1.names (under u1.names u2 keeps2) h2, λ q. cc))))
+      (tested_agrees _ known (suc t) e (runs.pure Next) done s1 u1 k1 low.1 valid.1 f1 h1
+      (λ s2 u2 k2 f2 keeps2 h2. both_give (stays t Next s2 u2 u1.names (under u1.names u2 keeps2) h2, λ q. cc))
+      (λ s2 u2 keeps2 h2. (stays t Broke s2 u2 u1.names (under u1.names u2 keeps2) h2, λ q. cc))))
       (λ s1 u1 k1 f1 h1. ih true known (suc t) s1 u1 k1 low.0 valid.0 f1 h1)
       s u k fine h
     where
@@ -309,17 +309,24 @@ module _ (m : Frame) (calls : Calls) (around : c.Around) (has : HasPrelude aroun
           (agree_weaken (ih true known (suc t) s (flag t u false) k low valid fine (flag_stores t s u false h)) (λ flow s1 flow' u1 p. let d = did_under t false u.names flow s1 flow' (flag t u false) u1 (flag_keeps t u.names u false (λ j x below. refl)) (written u.names (i_ t) (holds.Int (bit_of false))) p in (d.0, λ q. d.1)))
 
       at : (st : Stmt) → Claim st → IsLoweredStmt (a m) st → IsValid' true known st → (s : Store) (u : c.Store) (k : ℕ) → IsFine known s → Stores m s u → Is t true u → Agree SameWorld (λ flow s' flow' u'. Did m result t u.names flow s' flow' u' × (flow ≡ Continued → Is t false u')) (flow_of w m.types st s k) (c.flows_of around (step_in t st (code_of (suc t) st)) u k)
-      at (run e) ih low valid s u k fine h is = agree_map (λ v. Next) (value_agrees known e (suc t) s u k low valid fine h) (λ v s1 flow u1 p. ((did_under t true u.names Next s1 flow u u1 (λ j x below. refl) is (record { on = p.0; kept = p.1.0.kept; stores = p.1.0.stores })).0, λ q. cc))
+      at (run e) ih low valid s u k fine h is = agree_map (λ v. Next) (effect_agrees m calls around has known ok agree e (suc t) s u k low valid fine h) (λ v s1 flow u1 p. ((did_under t true u.names Next s1 flow u u1 (λ j x below. refl) is (record { on = p.0; kept = p.1.0; stores = p.1.1 })).0, λ q. cc))
       at st ih low valid s u k fine h is = reset st ih low valid s u k fine h
 
   for_agrees : (e : Expr) (st : Stmt) (ss : Stmts) → Claim st → ClaimAll ss → Claim (for_do e st ss)
-  for_agrees e st ss ihs ih in_loop known t s u k low valid fine h =
-      flagged_agrees t known (flow_of w m.types st) (tested (value_of w e) (flows_of w m.types ss)) (step_in t st (code_of (suc t) st)) (code (suc t) e ⨾ (break_unless (i_ (suc t)) ⨾ codes_of (suc t) ss))
-      (λ z j f. forget (core m calls) ok result true (sets st) known z _ (flow_fits (core m calls) ok result st true known z j valid.2 f))
-      (test_fits known e ss valid.0 valid.3)
-      (full_step st ihs known t low.1 valid.2)
-      (test_then (suc t) known e ss ih low.0 valid.0 low.2 valid.3)
-      s u k fine h
+  for_agrees e st ss ihs ih in_loop known t s u k low valid fine h = at st ihs low valid
+    where
+      flagged_for : (st : Stmt) → Claim st → IsLoweredStmt (a m) (for_do e st ss) → IsValid' in_loop known (for_do e st ss) → Agree SameWorld (Did m result t u.names) (flow_of w m.types (for_do e st ss) s k) (c.flows_of around (flagged t (step_in t st (code_of (suc t) st)) (code (suc t) e ⨾ (break_unless (i_ (suc t)) ⨾ codes_of (suc t) ss))) u k)
+      flagged_for st ihs low valid =
+          flagged_agrees t known (flow_of w m.types st) (tested (value_of w e) (flows_of w m.types ss)) (step_in t st (code_of (suc t) st)) (code (suc t) e ⨾ (break_unless (i_ (suc t)) ⨾ codes_of (suc t) ss))
+          (λ z j f. forget (core m calls) ok result true (sets st) known z _ (flow_fits (core m calls) ok result st true known z j valid.2 f))
+          (test_fits known e ss valid.0 valid.3)
+          (full_step st ihs known t low.1 valid.2)
+          (test_then (suc t) known e ss ih low.0 valid.0 low.2 valid.3)
+          s u k fine h
+
+      at : (st : Stmt) → Claim st → IsLoweredStmt (a m) (for_do e st ss) → IsValid' in_loop known (for_do e st ss) → Agree SameWorld (Did m result t u.names) (flow_of w m.types (for_do e st ss) s k) (c.flows_of around (code_of t (for_do e st ss)) u k)
+      at (block no_stmts) ihs low valid = while_agrees e ss ih in_loop known t s u k (low.0, low.2) (valid.0, valid.3) fine h
+      at st ihs low valid = flagged_for st ihs low valid
 
   -- ---- all statements
 

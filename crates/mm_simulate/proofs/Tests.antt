@@ -208,10 +208,10 @@ module _ (around : Around) (w : ℕ) (k : ℕ) where
           tested_then (set (i_ w) (Binary (Name (i_ y)) o.Less minus_one)) (if_or (i_ w) (bound_test (i_ x) (i_ y) (i_ w) Least (plain greatest)) (minus_test (i_ x) (i_ y) (i_ w))) u b (not (is_int (m *ℤ n))) f
           (tested_if b (not (is_int (m *ℤ n))) _ _ f.after f.bit
           (λ e. bound_tested f.after Least (plain greatest) least_int greatest_int (not (is_int (m *ℤ n))) h1 (λ v. refl) (λ v. refl) (below_one least_int n least_is e).1 (below_one least_int n least_is e).0 (below_one greatest_int n greatest_is e).0
-            (λ z. flipped _ _ (product_up' m n e z)) (λ z. flipped _ _ (product_down' m n e z)))
+          (λ z. flipped _ _ (product_up' m n e z)) (λ z. flipped _ _ (product_down' m n e z)))
           (λ e. minus_tested f.after (not (is_int (m *ℤ n))) h1
-            (λ z. flipped _ _ (ap (λ y. is_int (m *ℤ y)) z ∙ product_minus m is_m))
-            (λ z. not_true (is_int (m *ℤ n)) (ap (λ y. is_int (m *ℤ y)) (is_nil n low e z) ∙ product_zero m))))
+          (λ z. flipped _ _ (ap (λ y. is_int (m *ℤ y)) z ∙ product_minus m is_m))
+          (λ z. not_true (is_int (m *ℤ n)) (ap (λ y. is_int (m *ℤ y)) (is_nil n low e z) ∙ product_zero m))))
 
       pub product_tested : (u : c.Store) → Two u → Tested around w (product_test (i_ x) (i_ y) (i_ w)) u k (not (is_int (m *ℤ n)))
       product_tested u h =
@@ -221,5 +221,5 @@ module _ (around : Around) (w : ℕ) (k : ℕ) where
           tested_then (set (i_ w) (Binary (plain 0) o.Less (Name (i_ y)))) (if_or (i_ w) (bound_test (i_ x) (i_ y) (i_ w) (plain greatest) Least) (low_test (i_ x) (i_ y) (i_ w))) u b (not (is_int (m *ℤ n))) f
           (tested_if b (not (is_int (m *ℤ n))) _ _ f.after f.bit
           (λ e. bound_tested f.after (plain greatest) Least greatest_int least_int (not (is_int (m *ℤ n))) h1 (λ v. refl) (λ v. refl) (above_zero greatest_int n greatest_is e).1 (above_zero greatest_int n greatest_is e).0 (above_zero least_int n least_is e).0
-            (λ z. flipped _ _ (product_up m n e z)) (λ z. flipped _ _ (product_down m n e z)))
+          (λ z. flipped _ _ (product_up m n e z)) (λ z. flipped _ _ (product_down m n e z)))
           (λ e. low_tested f.after e h1))

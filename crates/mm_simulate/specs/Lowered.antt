@@ -1,5 +1,5 @@
--- The C code of a checked tree. A value goes to the temporary of number t and of its type's kind; the code changes no
--- temporary below t. No operation of it is stuck. (Own.)
+-- The C code of a checked tree. A value goes to the temporary of number t and of its type's kind;
+-- the code changes no temporary below t. No operation of it is stuck. (Own.)
 use Rattle.std.specs.Prelude.{◌≡◌, ℕ, zero, suc, max, ℤ, pos, negsuc, Bool, true, false, nat_eq, List, [], ◌∷◌, ◌++◌, length, map, Option, Some, None, codes, if◌then◌else◌, slice_get}
 use Rattle.mm_base.specs.declared.world.Builtin.{Builtin}
 use Rattle.mm_base.specs.declared.world.Builtin.TheVariants.{Put, Get, More}
@@ -11,8 +11,8 @@ use Rattle.mm_core.specs.declared.part.Target.{Target}
 use Rattle.mm_core.specs.declared.part.Target.TheVariants as to
 use Rattle.mm_core.specs.declared.part.Change.{Change}
 use Rattle.mm_core.specs.declared.part.Change.TheVariants.{Up, Down}
-use Rattle.mm_core.specs.Tree.{Expr, int, unsigned, bool, local, set_local, field, convert, binary, negation, both, either, choose, call, builtin, step_local, Exprs, no_exprs, expr_and, Stmt, block, run, if_else, while_do, do_while, for_do, break, continue, return_nothing, return, Stmts, no_stmts, stmt_and, Function, Program}
-use Rattle.mm_core.specs.Heads.{is_main, type_at, class_shown, argument_types}
+use Rattle.mm_core.specs.Tree.{Expr, int, unsigned, bool, local, set_local, convert, binary, negation, both, either, choose, call, builtin, step_local, Exprs, no_exprs, expr_and, Stmt, block, run, if_else, while_do, do_while, for_do, break, continue, return_nothing, return, Stmts, no_stmts, stmt_and, Function, Program}
+use Rattle.mm_core.specs.Heads.{is_main, type_at, argument_types}
 use Rattle.mm_core.specs.ValidProgram.{around}
 use Rattle.mm_core.specs.Run.{number_of_main}
 use Rattle.mm_core.specs.Valid.{Around, type_of, type_answered, is_pointer}
@@ -23,14 +23,14 @@ use Rattle.mm_c.specs.declared.tree.CAtom.TheVariants.{Name, Number, Negative, L
 use Rattle.mm_c.specs.declared.tree.COperator.{COperator}
 use Rattle.mm_c.specs.declared.tree.COperator.TheVariants as o
 use Rattle.mm_c.specs.declared.tree.CExpr.{CExpr}
-use Rattle.mm_c.specs.declared.tree.CExpr.TheVariants.{Atom, Binary, ToInt, ToUnsigned, Load, Call}
+use Rattle.mm_c.specs.declared.tree.CExpr.TheVariants.{Atom, Binary, ToInt, ToUnsigned, Call}
 use Rattle.mm_c.specs.declared.tree.CCall.{CCall}
 use Rattle.mm_c.specs.declared.tree.CCall.TheVariants.{Named}
 use Rattle.mm_c.specs.declared.tree.CLocal.{CLocal}
 use Rattle.mm_c.specs.declared.tree.CLinkage.TheVariants.{Public, Static}
 use Rattle.mm_c.specs.Tree as c
 use Rattle.mm_c.specs.Tree.{Code, done, do_then, ◌⨾◌, just}
-use Rattle.mm_agree.specs.Agree.{Layout, kind_of, cell_of}
+use Rattle.mm_agree.specs.Agree.{Layout, kind_of}
 use Rattle.mm_simulate.specs.Names.{temporary, named, function_named}
 use Rattle.mm_simulate.specs.Names as name
 
@@ -47,7 +47,8 @@ greatest = 2147483647
 
 abbrev pub int_atom : ℤ → CAtom
 int_atom (pos n) = plain n
-int_atom (negsuc n) = if nat_eq n greatest then Least else Negative (record { value = suc n; is_unsigned = false })
+int_atom (negsuc n) = if nat_eq n greatest then Least else Negative
+    (record { value = suc n; is_unsigned = false })
 
 abbrev pub bit : Bool → ℕ
 bit true = 1
@@ -101,27 +102,31 @@ test_by w a op b d e = set w (Binary a op b) ⨾ set w (Binary d o.Less e)
 abbrev pub sum_test : List ℕ → List ℕ → List ℕ → Code
 sum_test x y w =
     set w (Binary (Name y) o.Less (plain 0)) ⨾
-    if_or w (test_by w Least o.Subtract (Name y) (Name x) (Name w)) (test_by w (plain greatest) o.Subtract (Name y) (Name w) (Name x))
+    if_or w (test_by w Least o.Subtract (Name y) (Name x) (Name w))
+    (test_by w (plain greatest) o.Subtract (Name y) (Name w) (Name x))
 
 -- x - y is no `int` where y < 0 and greatest + y < x, or where x < least + y
 abbrev pub difference_test : List ℕ → List ℕ → List ℕ → Code
 difference_test x y w =
     set w (Binary (Name y) o.Less (plain 0)) ⨾
-    if_or w (test_by w (plain greatest) o.Add (Name y) (Name w) (Name x)) (test_by w Least o.Add (Name y) (Name x) (Name w))
+    if_or w (test_by w (plain greatest) o.Add (Name y) (Name w) (Name x))
+    (test_by w Least o.Add (Name y) (Name x) (Name w))
 
--- x * y is no `int`: where 0 < y, x is past the quotient of a bound by y; where y < -1 likewise, with the bounds exchanged;
--- where y is -1, x is the least one. No test divides twice.
+-- x * y is no `int`: where 0 < y, x is past the quotient of a bound by y; where y < -1 likewise,
+-- with the bounds exchanged; where y is -1, x is the least one. No test divides twice.
 abbrev pub bound_test : List ℕ → List ℕ → List ℕ → CAtom → CAtom → Code
 bound_test x y w above below =
     set w (Binary (plain 0) o.Less (Name x)) ⨾
-    if_or w (test_by w above o.Divide (Name y) (Name w) (Name x)) (test_by w below o.Divide (Name y) (Name x) (Name w))
+    if_or w (test_by w above o.Divide (Name y) (Name w) (Name x))
+    (test_by w below o.Divide (Name y) (Name x) (Name w))
 
 abbrev pub minus_one : CAtom
 minus_one = Negative (record { value = 1; is_unsigned = false })
 
 -- x / y is no `int` where x is the least one and y is -1
 abbrev pub minus_test : List ℕ → List ℕ → List ℕ → Code
-minus_test x y w = set w (Binary (Name y) o.Equal minus_one) ⨾ only_if w (set w (Binary (Name x) o.Equal Least))
+minus_test x y w = set w (Binary (Name y) o.Equal minus_one) ⨾
+    only_if w (set w (Binary (Name x) o.Equal Least))
 
 abbrev pub low_test : List ℕ → List ℕ → List ℕ → Code
 low_test x y w =
@@ -158,8 +163,10 @@ abbrev pub on_int : Operator → List ℕ → List ℕ → List ℕ → List ℕ
 on_int by.Add x y w z = sum_test x y w ⨾ unless_over o.Add x y w z
 on_int by.Subtract x y w z = difference_test x y w ⨾ unless_over o.Subtract x y w z
 on_int by.Multiply x y w z = product_test x y w ⨾ unless_over o.Multiply x y w z
-on_int by.Divide x y w z = zero_trap y (plain 0) w ⨾ (minus_test x y w ⨾ unless_over o.Divide x y w z)
-on_int by.Remainder x y w z = zero_trap y (plain 0) w ⨾ (minus_test x y w ⨾ unless_over o.Remainder x y w z)
+on_int by.Divide x y w z = zero_trap y (plain 0) w ⨾
+    (minus_test x y w ⨾ unless_over o.Divide x y w z)
+on_int by.Remainder x y w z = zero_trap y (plain 0) w ⨾
+    (minus_test x y w ⨾ unless_over o.Remainder x y w z)
 on_int op x y w z = set z (Binary (Name x) (op_in_c op) (Name y))
 
 abbrev pub on_word : Operator → List ℕ → List ℕ → List ℕ → List ℕ → Code
@@ -170,8 +177,10 @@ on_word op x y w z = set z (Binary (Name x) (op_in_c op) (Name y))
 -- on operands of a type in t and the next temporary, with a result of a type
 abbrev pub operator : ℕ → Operator → Ty → Ty → Code
 operator t op ty.Unsigned result = on_word op (u_ t) (u_ (suc t)) (i_ (suc t)) (of_ result t)
-operator t op (ty.Ptr d) result = set (of_ result t) (Binary (Name (p_ t)) (op_in_c op) (Name (p_ (suc t))))
-operator t op (ty.Ref d) result = set (of_ result t) (Binary (Name (p_ t)) (op_in_c op) (Name (p_ (suc t))))
+operator t op (ty.Ptr d) result = set (of_ result t)
+    (Binary (Name (p_ t)) (op_in_c op) (Name (p_ (suc t))))
+operator t op (ty.Ref d) result = set (of_ result t)
+    (Binary (Name (p_ t)) (op_in_c op) (Name (p_ (suc t))))
 operator t op other result = on_int op (i_ t) (i_ (suc t)) (i_ (suc (suc t))) (of_ result t)
 
 -- ---- other nodes
@@ -198,11 +207,20 @@ change_in_c Up = o.Add
 change_in_c Down = o.Subtract
 
 abbrev pub step_code : ℕ → ℕ → Change → Ty → Code
-step_code t x change ty.Unsigned = set (u_ t) (Atom (Name (v_ x))) ⨾ set (v_ x) (Binary (Name (v_ x)) (change_in_c change) (word 1))
+step_code t x change ty.Unsigned = set (u_ t) (Atom (Name (v_ x))) ⨾
+    set (v_ x) (Binary (Name (v_ x)) (change_in_c change) (word 1))
 step_code t x change other =
     set (i_ t) (Atom (Name (v_ x))) ⨾
     set (i_ (suc t)) (Binary (Name (v_ x)) o.Equal (step_end change)) ⨾
     overflow_if (i_ (suc t)) ⨾
+    set (v_ x) (Binary (Name (v_ x)) (change_in_c change) (plain 1))
+
+-- the same, where the old value is not used
+abbrev pub step_only : ℕ → ℕ → Change → Ty → Code
+step_only t x change ty.Unsigned = set (v_ x) (Binary (Name (v_ x)) (change_in_c change) (word 1))
+step_only t x change other =
+    set (i_ t) (Binary (Name (v_ x)) o.Equal (step_end change)) ⨾
+    overflow_if (i_ t) ⨾
     set (v_ x) (Binary (Name (v_ x)) (change_in_c change) (plain 1))
 
 -- a call, whose result goes to t where there is one
@@ -220,14 +238,21 @@ break_unless x = if_or x done (just c.break)
 
 -- ---- loops
 
--- A loop in whose turns something stands before the body, but in the first one: t tells whether it is due.
+-- A loop in whose turns something stands before the body, but in the first one: t tells whether it
+-- is due.
 abbrev pub flagged : ℕ → Code → Code → Code
-flagged t before body = set (i_ t) (Atom (plain 0)) ⨾ just (c.forever (block_of (only_if (i_ t) before ⨾ (set (i_ t) (Atom (plain 1)) ⨾ body))))
+flagged t before body = set (i_ t) (Atom (plain 0)) ⨾
+    just (c.forever (block_of (only_if (i_ t) before ⨾ (set (i_ t) (Atom (plain 1)) ⨾ body))))
 
 -- The step of a `for`. One that may end the turn leaves none due for the next.
 abbrev pub step_in : ℕ → Stmt → Code → Code
 step_in t (run e) code = code
 step_in t other code = set (i_ t) (Atom (plain 0)) ⨾ code
+
+-- A `for` from its step, and its test and body for a loop with a step and for one without.
+abbrev pub looped : ℕ → Stmt → Code → Code → Code → Code
+looped t (block no_stmts) step later plain = just (c.forever (block_of plain))
+looped t s step later plain = flagged t (step_in t s step) later
 
 module _ (a : Around) (l : Layout) (named_of : ℕ → List ℕ) where
   -- the temporaries from t on, one for each expression
@@ -243,15 +268,17 @@ module _ (a : Around) (l : Layout) (named_of : ℕ → List ℕ) where
     lowered t (bool b) = set (i_ t) (Atom (plain (bit b)))
     lowered t (local x) = set (of_ (type_at a.locals x) t) (Atom (Name (v_ x)))
     lowered t (set_local x e) = lowered t e ⨾ set (v_ x) (Atom (Name (of_ (type_of a e) t)))
-    lowered t (field f e) = lowered t e ⨾ set (of_ (type_of a (field f e)) t) (Load (cell_of (type_of a (field f e))) (record { pointer = p_ t; offset = record { value = l.member (class_shown (type_of a e)) f; is_unsigned = false } }))
     lowered t (convert x e) = lowered t e ⨾ conversion t x (type_of a e)
-    lowered t (binary op d e) = lowered t d ⨾ (lowered (suc t) e ⨾ operator t op (type_of a d) (type_of a (binary op d e)))
+    lowered t (binary op d e) = lowered t d ⨾
+        (lowered (suc t) e ⨾ operator t op (type_of a d) (type_of a (binary op d e)))
     lowered t (negation e) = lowered t e ⨾ set (i_ t) (Binary (Name (i_ t)) o.Equal (plain 0))
     lowered t (both d e) = lowered t d ⨾ only_if (i_ t) (lowered t e)
     lowered t (either d e) = lowered t d ⨾ if_or (i_ t) done (lowered t e)
     lowered t (choose e d f) = lowered t e ⨾ if_or (i_ t) (lowered t d) (lowered t f)
-    lowered t (call f es) = lowered_all t es ⨾ called_for t (type_of a (call f es)) (Named (named_of f) (atoms_from t es))
-    lowered t (builtin b es) = lowered_all t es ⨾ called_for t (type_answered b) (Named (builtin_name b) (atoms_from t es))
+    lowered t (call f es) = lowered_all t es ⨾
+        called_for t (type_of a (call f es)) (Named (named_of f) (atoms_from t es))
+    lowered t (builtin b es) = lowered_all t es ⨾
+        called_for t (type_answered b) (Named (builtin_name b) (atoms_from t es))
     lowered t (step_local x change) = step_code t x change (type_at a.locals x)
     lowered t other = done
 
@@ -260,16 +287,30 @@ module _ (a : Around) (l : Layout) (named_of : ℕ → List ℕ) where
     lowered_all t no_exprs = done
     lowered_all t (expr_and e es) = lowered t e ⨾ lowered_all (suc t) es
 
+  -- an expression whose value is not used: neither the result of a call nor a step's old value is
+  -- kept
+  abbrev pub effect : ℕ → Expr → Code
+  effect t (call f es) = lowered_all t es ⨾ just (c.run (Named (named_of f) (atoms_from t es)))
+  effect t (builtin b es) = lowered_all t es ⨾
+      just (c.run (Named (builtin_name b) (atoms_from t es)))
+  effect t (step_local x change) = step_only t x change (type_at a.locals x)
+  effect t e = lowered t e
+
   -- ---- statements
 
   abbrev mutual
     pub lowered_stmt : ℕ → Stmt → Code
     lowered_stmt t (block ss) = lowered_stmts t ss
-    lowered_stmt t (run e) = lowered t e
-    lowered_stmt t (if_else e ss ts) = lowered t e ⨾ if_or (i_ t) (lowered_stmts t ss) (lowered_stmts t ts)
-    lowered_stmt t (while_do e ss) = just (c.forever (block_of (lowered t e ⨾ (break_unless (i_ t) ⨾ lowered_stmts t ss))))
-    lowered_stmt t (do_while ss e) = flagged t (lowered (suc t) e ⨾ break_unless (i_ (suc t))) (lowered_stmts (suc t) ss)
-    lowered_stmt t (for_do e s ss) = flagged t (step_in t s (lowered_stmt (suc t) s)) (lowered (suc t) e ⨾ (break_unless (i_ (suc t)) ⨾ lowered_stmts (suc t) ss))
+    lowered_stmt t (run e) = effect t e
+    lowered_stmt t (if_else e ss ts) = lowered t e ⨾
+        if_or (i_ t) (lowered_stmts t ss) (lowered_stmts t ts)
+    lowered_stmt t (while_do e ss) = just (c.forever
+        (block_of (lowered t e ⨾ (break_unless (i_ t) ⨾ lowered_stmts t ss))))
+    lowered_stmt t (do_while ss e) = flagged t (lowered (suc t) e ⨾ break_unless (i_ (suc t)))
+        (lowered_stmts (suc t) ss)
+    lowered_stmt t (for_do e s ss) = looped t s (lowered_stmt (suc t) s) (lowered (suc t) e ⨾
+        (break_unless (i_ (suc t)) ⨾ lowered_stmts (suc t) ss)) (lowered t e ⨾
+        (break_unless (i_ t) ⨾ lowered_stmts t ss))
     lowered_stmt t break = just c.break
     lowered_stmt t continue = just c.continue
     lowered_stmt t return_nothing = just c.leave
@@ -285,7 +326,6 @@ module _ (a : Around) (l : Layout) (named_of : ℕ → List ℕ) where
 abbrev mutual
   pub reach : Expr → ℕ
   reach (set_local x e) = reach e
-  reach (field f e) = reach e
   reach (convert x e) = reach e
   reach (binary op d e) = max (reach d) (max (suc (reach e)) 3)
   reach (negation e) = reach e
@@ -321,7 +361,6 @@ abbrev mutual
 abbrev mutual
   pub nesting : Expr → ℕ
   nesting (set_local x e) = nesting e
-  nesting (field f e) = nesting e
   nesting (convert x e) = nesting e
   nesting (binary op d e) = max (nesting d) (nesting e)
   nesting (negation e) = nesting e
@@ -343,7 +382,8 @@ abbrev mutual
   nesting_stmt (if_else e ss ts) = max (nesting e) (suc (max (nesting_stmts ss) (nesting_stmts ts)))
   nesting_stmt (while_do e ss) = suc (max (nesting e) (nesting_stmts ss))
   nesting_stmt (do_while ss e) = suc (max (suc (nesting e)) (nesting_stmts ss))
-  nesting_stmt (for_do e s ss) = suc (max (suc (nesting_stmt s)) (max (nesting e) (nesting_stmts ss)))
+  nesting_stmt (for_do e s ss) = suc (max (suc (nesting_stmt s))
+      (max (nesting e) (nesting_stmts ss)))
   nesting_stmt (return e) = nesting e
   nesting_stmt other = 0
 
@@ -382,13 +422,15 @@ temporaries zero = []
 temporaries (suc n) = (kind.Int, n) ∷ (kind.Unsigned, n) ∷ (kind.Pointer, n) ∷ temporaries n
 
 -- A function, with the temporaries that are declared.
-abbrev pub lowered_fn : Around → Layout → (ℕ → List ℕ) → ℕ → Bool → Function → Stmt → List (CKind × ℕ) → c.Function
+abbrev pub lowered_fn : Around → Layout → (ℕ → List ℕ) → ℕ → Bool → Function → Stmt →
+    List (CKind × ℕ) → c.Function
 lowered_fn a l named_of n public f body temps = record {
   linkage = if public then Public else Static;
   result = kind_of_result f.result;
   name = named_of n;
   params = locals_from 0 (argument_types a.classes f);
-  body = c.block (locals_from (length (argument_types a.classes f)) f.locals ++ map temporary_local temps) (lowered_stmt a l named_of 0 body ⨾ ending f.result (is_main f));
+  body = c.block (locals_from (length (argument_types a.classes f)) f.locals ++ map temporary_local
+      temps) (lowered_stmt a l named_of 0 body ⨾ ending f.result (is_main f));
 }
 
 -- ---- programs
@@ -406,7 +448,11 @@ with_body n f (Some b) more = record { number = n; function = f; body = b } ∷ 
 -- those from number n on, but the one of number m
 abbrev pub others_from : ℕ → ℕ → List Function → List Defined
 others_from m n [] = []
-others_from m n (f ∷ fs) = elim (nat_eq n m) [ true ↦ others_from m (suc n) fs | false ↦ with_body n f f.body (others_from m (suc n) fs) ]
+others_from m n (f ∷ fs) = elim (nat_eq n m) [
+  | true ↦ others_from m (suc n) fs
+  | false ↦
+      with_body n f f.body (others_from m (suc n) fs)
+]
 
 abbrev pub entry_at : ℕ → Option Function → List Defined
 entry_at m None = []
@@ -425,7 +471,8 @@ source_name None = []
 source_name (Some f) = f.name
 
 abbrev pub name_of : Program → ℕ → List ℕ
-name_of p n = function_named (nat_eq n (number_of_main p.functions)) n (source_name (slice_get p.functions n))
+name_of p n = function_named (nat_eq n (number_of_main p.functions)) n
+    (source_name (slice_get p.functions n))
 
 -- a function that may be called
 abbrev pub is_defined : Function → Bool
@@ -434,15 +481,22 @@ is_defined f = f.defined
 -- `temps` says by a function's number which temporaries are declared in it.
 module _ (p : Program) (l : Layout) (temps : ℕ → List (CKind × ℕ)) where
   abbrev pub fn_of : Defined → c.Function
-  fn_of d = lowered_fn (around is_defined p d.function) l (name_of p) d.number (nat_eq d.number (number_of_main p.functions)) d.function d.body (temps d.number)
+  fn_of d = lowered_fn (around is_defined p d.function) l (name_of p) d.number
+      (nat_eq d.number (number_of_main p.functions)) d.function d.body (temps d.number)
 
   abbrev pub item_of : Defined → c.Item
   item_of d = c.function (fn_of d)
 
   abbrev pub head_of : Defined → c.Item
-  head_of d = c.proto (record { is_inline = false; result = (fn_of d).result; name = (fn_of d).name; params = (fn_of d).params })
+  head_of d = c.proto (record {
+    is_inline = false;
+    result = (fn_of d).result;
+    name = (fn_of d).name;
+    params = (fn_of d).params;
+  })
 
-  -- The heads of all functions but `main`, which has none; then `main`, which any function may call; then the others.
+  -- The heads of all functions but `main`, which has none; then `main`, which any function may
+  -- call; then the others.
   abbrev pub lowered_program : c.Program
   lowered_program = record { items = map head_of (others p) ++ map item_of (entry p ++ others p) }
 
@@ -456,7 +510,6 @@ module _ (a : Around) where
     IsLowered (bool b) = Unit {0}
     IsLowered (local x) = Unit {0}
     IsLowered (set_local x e) = IsLowered e
-    IsLowered (field f e) = IsLowered e
     IsLowered (convert x e) = IsLowered e
     IsLowered (binary op d e) = (is_pointer (type_of a d) ≡ false) × IsLowered d × IsLowered e
     IsLowered (negation e) = IsLowered e

@@ -7,10 +7,14 @@ use Rattle.mm_c.specs.declared.tree.CKind.TheVariants.{Int, Unsigned, Long, Poin
 -- the last k digits of a number at most, before others
 abbrev pub digits_onto : ℕ → ℕ → List ℕ → List ℕ
 digits_onto zero n more = more
-digits_onto (suc k) n more = elim (nat_eq (n / 10) 0) [ true ↦ (48 + n % 10) ∷ more | false ↦ digits_onto k (n / 10) ((48 + n % 10) ∷ more) ]
+digits_onto (suc k) n more = elim (nat_eq (n / 10) 0) [
+  | true ↦ (48 + n % 10) ∷ more
+  | false ↦
+      digits_onto k (n / 10) ((48 + n % 10) ∷ more)
+]
 
--- The digits of a number. What prints a number of 64 bits writes them too; these are those of every number, so that no bound
--- stands in what is said of names.
+-- The digits of a number. What prints a number of 64 bits writes them too; these are those of every
+-- number, so that no bound stands in what is said of names.
 unfoldable pub numeral : ℕ → List ℕ
 numeral n = digits_onto (suc n) n []
 
@@ -30,7 +34,8 @@ abbrev pub named : Place → List ℕ
 named (local x) = 118 ∷ numeral x
 named (temporary k t) = letter k ∷ numeral t
 
--- A function by its number and its name in the source, of which the letters, digits and `_` stay: `f3_gcd`. `main` has its own.
+-- A function by its number and its name in the source, of which the letters, digits and `_` stay:
+-- `f3_gcd`. `main` has its own.
 abbrev pub function_named : Bool → ℕ → List ℕ → List ℕ
 function_named true n name = codes "main"
 function_named false n name = 102 ∷ (numeral n ++ 95 ∷ filter is_word_byte name)

@@ -1,0 +1,10 @@
+pub mod Words
+pub mod Entries
+pub mod Scopes
+pub mod Arguments
+pub mod Keeping
+pub mod Distinct
+pub mod Pairs
+pub mod Sequence
+pub mod Both
+pub mod Rules

@@ -1,0 +1,5 @@
+pub mod Words
+pub mod Entries
+pub mod Scopes
+pub mod Keeps
+pub mod Locals
