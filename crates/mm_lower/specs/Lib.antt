@@ -1,2 +1,4 @@
 pub mod Named
 pub mod Scopes
+pub mod Steps
+pub mod Written

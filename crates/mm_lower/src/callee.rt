@@ -17,5 +17,5 @@ pub fn callee(alloc: Global, scope: &Scope, function: u32) -> Result<Text, Alloc
         Some(function) => function.name.as_str(),
         None => "",
     };
-    function_name(alloc, number == scope.main, function, source)
+    function_name(alloc, number == scope.main, number, source)
 }

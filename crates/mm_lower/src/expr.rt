@@ -101,9 +101,9 @@ pub fn lower_expr(
     }
 }
 
-// The code of arguments, whose values go to t and the temporaries after it; answers those.
+/// The code of arguments, whose values go to t and the temporaries after it; answers those.
 #[cycle(expr)]
-fn lower_all(
+pub fn lower_all(
     alloc: Global,
     scope: &Scope,
     es: &[CoreExpr],

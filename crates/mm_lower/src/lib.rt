@@ -2,10 +2,12 @@
 #![tactic(auto, using(mm_c::proofs::Views::code_rules))]
 
 mod callee;
+pub mod effect;
 pub mod expr;
 pub mod name;
 pub mod node;
 pub mod operator;
 pub mod scope;
+pub mod stmt;
 pub mod types;
 pub mod write;

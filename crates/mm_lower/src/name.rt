@@ -14,7 +14,7 @@ use std::alloc::{AllocError, Global};
 /// A local of the source, or a temporary of a kind, by their numbers.
 #[derive(Clone, Copy, Debug, PartialEq, Eq)]
 pub enum Name {
-    Local(u32),
+    Local(usize),
     Temporary(CKind, u32),
 }
 
@@ -55,7 +55,7 @@ fn is_word_byte(byte: u8) -> bool
 pub fn function_name(
     alloc: Global,
     is_main: bool,
-    number: u32,
+    number: usize,
     source: &str,
 ) -> Result<Text, AllocError>
     ensures { IfOk result (λ t. t ≡ function_named is_main number source.now) }

@@ -133,7 +133,7 @@ pub fn load_local(
     ensures value { IfOk result (λ found. found ≡ type_at scope.now.locals.now local) }
 {
     let ty = scope.type_at(local);
-    let value = Name::Local(local).atom(alloc)?;
+    let value = Name::Local(local as usize).atom(alloc)?;
     set(alloc, code, name_for(&ty, t), CExpr::Atom(value))?;
     Ok(ty)
 }
@@ -151,7 +151,7 @@ pub fn store_local(
     ensures value { IfOk result (λ found. found ≡ type_at scope.now.locals.now local) }
 {
     let value = name_for(ty, t).atom(alloc)?;
-    set(alloc, code, Name::Local(local), CExpr::Atom(value))?;
+    set(alloc, code, Name::Local(local as usize), CExpr::Atom(value))?;
     Ok(scope.type_at(local))
 }
 
@@ -328,6 +328,17 @@ pub fn call_function(
     Ok(ty)
 }
 
+/// The name of a built-in function.
+pub fn builtin_text(alloc: Global, builtin: Builtin) -> Result<Text, AllocError>
+    ensures { IfOk result (λ t. t ≡ lowered.builtin_name builtin) }
+{
+    match builtin {
+        Builtin::Put => Text::from_str(alloc, "mm_put"),
+        Builtin::Get => Text::from_str(alloc, "mm_get"),
+        Builtin::More => Text::from_str(alloc, "mm_more"),
+    }
+}
+
 /// A call of a built-in function.
 pub fn call_builtin(
     alloc: Global,
@@ -339,11 +350,7 @@ pub fn call_builtin(
     ensures code { OnOk result (code_view code.new ≡ code_view code.old ⨾ lowered.called_for t (valid.type_answered builtin) (call.Named (lowered.builtin_name builtin) atoms)) }
     ensures value { IfOk result (λ found. found ≡ valid.type_answered builtin) }
 {
-    let name = match builtin {
-        Builtin::Put => Text::from_str(alloc, "mm_put")?,
-        Builtin::Get => Text::from_str(alloc, "mm_get")?,
-        Builtin::More => Text::from_str(alloc, "mm_more")?,
-    };
+    let name = builtin_text(alloc, builtin)?;
     let ty = type_of_builtin(builtin);
     call_for(alloc, code, t, &ty, CCall::Named(name, atoms))?;
     Ok(ty)
@@ -387,6 +394,17 @@ fn step_int(
     set(alloc, code, local, CExpr::Binary(value, by, plain(1)))
 }
 
+/// The operator of a step, and the `int` that can't step.
+pub fn step_parts(change: Change) -> (COperator, CAtom)
+    ensures operator { result.0 ≡ lowered.change_in_c change }
+    ensures end { result.1 ≡ lowered.step_end change }
+{
+    match change {
+        Change::Up => (COperator::Add, plain(GREATEST)),
+        Change::Down => (COperator::Subtract, CAtom::Least),
+    }
+}
+
 /// A local steps up or down; its old value is the node's.
 pub fn step_local(
     alloc: Global,
@@ -401,11 +419,8 @@ pub fn step_local(
     ensures value { IfOk result (λ found. found ≡ type_at scope.now.locals.now local) }
 {
     let ty = scope.type_at(local);
-    let name = Name::Local(local);
-    let (by, end) = match change {
-        Change::Up => (COperator::Add, plain(GREATEST)),
-        Change::Down => (COperator::Subtract, CAtom::Least),
-    };
+    let name = Name::Local(local as usize);
+    let (by, end) = step_parts(change);
     match &ty {
         Ty::Unsigned => step_word(alloc, code, t, name, by)?,
         Ty::Void | Ty::Bool | Ty::Int | Ty::Ptr(_) | Ty::Ref(_) => {

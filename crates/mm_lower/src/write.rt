@@ -25,8 +25,8 @@ pub fn set(
     code.push(CStmt::Assign(name, right))
 }
 
-// A block without locals of its own.
-fn block(alloc: Global, body: Items<CStmt>) -> CBlock
+/// A block without locals of its own.
+pub fn block(alloc: Global, body: Items<CStmt>) -> CBlock
     ensures { block_view result ≡ lowered.block_of (code_view body) }
 {
     let locals = Items::new(alloc);
