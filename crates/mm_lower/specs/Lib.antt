@@ -1,4 +1,5 @@
 pub mod Named
+pub mod Needed
 pub mod Scopes
 pub mod Steps
 pub mod Written

@@ -22,6 +22,10 @@ no_layout = record { size = λ c. 0; offset = λ c p. 0; member = λ c f. 0 }
 abbrev pub around_in : Scope → Around
 around_in s = record { classes = []; functions = map function_view s.functions.now; callable = is_defined; locals = s.locals.now; arguments = s.arguments }
 
+-- what stands around a body, by the types of its locals and the number of its arguments
+abbrev pub around_of : List CoreFn → List Ty → ℕ → Around
+around_of fs types n = record { classes = []; functions = map function_view fs; callable = is_defined; locals = types; arguments = n }
+
 abbrev pub named_in : Scope → ℕ → List ℕ
 named_in s = name_of (program_of s.functions.now)
 

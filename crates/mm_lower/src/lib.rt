@@ -4,10 +4,14 @@
 mod callee;
 pub mod effect;
 pub mod expr;
+pub mod function;
+pub mod head;
 pub mod name;
 pub mod node;
 pub mod operator;
+pub mod program;
 pub mod scope;
 pub mod stmt;
+pub mod temporary;
 pub mod types;
 pub mod write;
