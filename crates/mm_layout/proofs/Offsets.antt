@@ -1,5 +1,5 @@
 -- The regions of an object.
-use Rattle.std.proofs.Common.{◌≡◌, ℕ, zero, suc, ◌+◌, ◌*◌, ◌-◌, ◌<◌, ◌≤◌, ◌⊎◌, inl, inr, Bool, true, false, List, [], ◌∷◌, ◌++◌, length, take, get_or, max, sum_by, cond, sym, ◌∙◌, ap, refl, subst, arith, Some, length-append}
+use Rattle.std.proofs.Common.{◌≡◌, ℕ, zero, suc, ◌+◌, ◌*◌, ◌-◌, ◌<◌, ◌≤◌, inl, inr, Bool, true, List, [], ◌∷◌, length, take, get_or, max, sum_by, cond, sym, ◌∙◌, ap, refl, arith, Some, length-append}
 use Rattle.std.specs.List.{flat_map}
 use Rattle.std.proofs.lemmas.Bool.{cases_lt}
 use Rattle.std.proofs.lemmas.List.Sums.{sum_by_more, sum_by-cons, sum_by-take-le}
@@ -7,9 +7,9 @@ use Rattle.std.proofs.lemmas.List.{take-take}
 use Rattle.std.proofs.lemmas.Option.{get_or_from_slice_get, slice_get_cases}
 use Rattle.std.specs.List.{slice_get}
 use Rattle.mm_classes.specs.declared.class.Member.{Member}
-use Rattle.mm_classes.specs.Lists.{Has, Distinct}
+use Rattle.mm_classes.specs.Lists.{Has}
 use Rattle.mm_classes.specs.Classes.{Class, IsClassList, members_of, field_count, is_field}
-use Rattle.mm_classes.specs.Subobjects.{Path, chains, subobjects_of, end_of, compose, IsSubobject, virtual_bases}
+use Rattle.mm_classes.specs.Subobjects.{Path, chains, subobjects_of, end_of, compose, virtual_bases}
 use Rattle.mm_classes.specs.Questions.{node, IsNode}
 use Rattle.mm_classes.proofs.Places.{place_on, head_virtual}
 use Rattle.mm_classes.proofs.Within.{virtual_bases_are}
@@ -17,8 +17,8 @@ use Rattle.mm_classes.proofs.Subs.{virtual_falls, subobjects-Distinct}
 use Rattle.mm_classes.proofs.Compose.{compose-end}
 use Rattle.mm_classes.proofs.Answering.{node_sub}
 use Rattle.mm_classes.proofs.Cuts.{one_place}
-use Rattle.mm_layout.specs.Regions.{owns_cell, own_cells, region_of, offset_of, size_of, place_of}
-use Rattle.mm_layout.specs.Laws.{LaysOut, FillsRegion, IsFieldAt}
+use Rattle.mm_layout.specs.Regions.{own_cells, region_of, offset_of}
+use Rattle.mm_layout.specs.Laws.{LaysOut, FillsRegion}
 
 own_node : (g : List Class) (c m : ℕ) → m < length (chains g (length g) c) → IsNode g c m
 own_node g c m h = omega (arith, length-append (chains g (length g) c) (flat_map (chains g (length g)) (virtual_bases g c)))

@@ -1,17 +1,14 @@
 -- Which classes have virtual bases, and tags.
-use Rattle.std.proofs.Common.{◌≡◌, ◌≢◌, ℕ, ◌<◌, ◌⊎◌, inl, inr, true, false, List, [], ◌∷◌, length, get_or, sym, ◌∙◌, ap, refl, subst, arith, ◌+◌, ◌++◌, Bool, not, eqb, ◌↔◌, suc, zero}
+use Rattle.std.proofs.Common.{◌≡◌, ◌≢◌, ℕ, ◌<◌, ◌⊎◌, inl, inr, true, false, List, [], ◌∷◌, length, get_or, sym, ◌∙◌, ap, refl, subst, arith, ◌+◌, ◌++◌, Bool, not, eqb, ◌↔◌, suc}
 use Rattle.std.specs.Bool.{Decides}
 use Rattle.std.proofs.lemmas.Bool.Decides.{eqb_tells}
-use Rattle.std.proofs.lemmas.Bool.{cases_lt, eqb-true}
-use Rattle.std.proofs.lemmas.List.{get_or_append_left, get_or_push, get_or_read}
+use Rattle.std.proofs.lemmas.Bool.{cases_lt}
+use Rattle.std.proofs.lemmas.List.{get_or_append_left, get_or_push}
 use Rattle.mm_classes.specs.Lists.{Has, first}
 use Rattle.mm_classes.specs.declared.class.Base.{Base}
-use Rattle.mm_classes.specs.declared.class.Member.{Member}
-use Rattle.mm_classes.specs.Classes.{Class, IsClassList, class_at, bases_of, members_of, IsPolymorphic, HasVirtual, Derives, direct, through}
-use Rattle.mm_classes.specs.Subobjects.{Path, IsSubobject, IsVirtual, listed, below, subobjects_of}
-use Rattle.mm_classes.specs.Questions.{node, IsNode}
-use Rattle.mm_classes.proofs.Subs.{are_subobjects, virtual_falls}
-use Rattle.mm_classes.proofs.Answering.{place_from_Has, Has-get_or, complete_below}
+use Rattle.mm_classes.specs.Classes.{Class, IsClassList, class_at, bases_of, members_of, Derives, direct, through}
+use Rattle.mm_classes.specs.Subobjects.{IsVirtual, listed, below}
+use Rattle.mm_classes.proofs.Answering.{Has-get_or, complete_below}
 use Rattle.mm_layout.specs.Regions.{HasTag}
 
 -- nothing is in an empty list
@@ -50,14 +47,15 @@ pushed P xs new n x d long each here e k h = subst (λ ys. P k (get_or ys k d)) 
 -- a list that has what has a property is not empty exactly where something has it
 pub some_of : (P : ℕ → Type 0) (vs : List ℕ) (b : Bool) → b ≡ eqb (length vs) 0 → ((v : ℕ) → P v ↔ Has vs v) → Decides (not b) ((v : ℕ) × P v)
 some_of P [] b e h =
-  let is_true : b ≡ true = e in
-  (λ f. let g : false ≡ true = sym (ap not is_true) ∙ f in cc, λ (v, p). absurd (none [] v refl ((h v).0 p)))
+    let is_true : b ≡ true = e in
+    (λ f. let g : false ≡ true = sym (ap not is_true) ∙ f in cc, λ (v, p). absurd (none [] v refl ((h v).0 p)))
 some_of P (v ∷ vs) b e h =
-  let is_false : b ≡ false = e ∙ not_zero (eqb_tells (length (v ∷ vs)) 0) in
-  (λ _. (v, (h v).1 (first refl)), λ _. ap not is_false)
+    let is_false : b ≡ false = e ∙ not_zero (eqb_tells (length (v ∷ vs)) 0) in
+    (λ _. (v, (h v).1 (first refl)), λ _. ap not is_false)
   where
     long : (n : ℕ) → suc n ≡ 0 → ⊥
     long n z = omega arith
+
     not_zero : ((eqb (length (v ∷ vs)) 0 ≡ true) × (length (v ∷ vs) ≡ 0)) ⊎ ((eqb (length (v ∷ vs)) 0 ≡ false) × (length (v ∷ vs) ≢ 0)) → eqb (length (v ∷ vs)) 0 ≡ false
     not_zero (inl (_, z)) = absurd (long (length vs) z)
     not_zero (inr (n, _)) = n

@@ -1,8 +1,8 @@
 -- What callers may rely on of a layout.
-use Rattle.std.specs.Prelude.{◌≡◌, ℕ, ◌+◌, ◌*◌, ◌<◌, ◌≤◌, Bool, true, List, ◌∷◌, length, Some, slice_get}
+use Rattle.std.specs.Prelude.{◌≡◌, ℕ, ◌+◌, ◌*◌, ◌<◌, ◌≤◌, Bool, true, List, ◌∷◌, Some, slice_get}
 use Rattle.mm_classes.specs.declared.class.Member.{Member}
 use Rattle.mm_classes.specs.Classes.{Class, members_of, is_field}
-use Rattle.mm_classes.specs.Subobjects.{Path, subobjects_of, end_of, compose}
+use Rattle.mm_classes.specs.Subobjects.{Path, end_of, compose}
 use Rattle.mm_classes.specs.Questions.{node, IsNode}
 use Rattle.mm_layout.specs.Regions.{owns_cell, region_of, offset_of, size_of, place_of}
 

@@ -1,9 +1,8 @@
 -- What a layout keeps of each class, and when it is that of a class list. Own.
-use Rattle.std.specs.Prelude.{◌≡◌, ℕ, ◌+◌, ◌-◌, ◌<◌, ◌≤◌, ◌^◌, Bool, false, List, [], length, get_or, Vec}
+use Rattle.std.specs.Prelude.{◌≡◌, ℕ, ◌+◌, ◌<◌, ◌≤◌, ◌^◌, Bool, false, List, [], length, get_or}
 use Rattle.std.specs.Bool.{Decides}
 use Rattle.mm_classes.specs.Classes.{Class, IsComplete, members_of}
 use Rattle.mm_classes.specs.Subobjects.{subobjects_of}
-use Rattle.mm_classes.specs.Questions.{IsNode}
 use Rattle.mm_layout.specs.Regions.{HasTag, offset_of, size_of, place_of}
 
 -- Of one class: the offset of each subobject, in order, and then the size; the place of each member in its region.

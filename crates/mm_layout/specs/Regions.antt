@@ -1,9 +1,9 @@
 -- How the objects of a class are laid out: one region for each subobject, in their order. Own.
-use Rattle.std.specs.Prelude.{◌≡◌, ℕ, ◌+◌, ◌*◌, ◌<◌, Bool, true, false, ◌&&◌, not, List, [], ◌∷◌, length, take, get_or, max, sum_by, cond, ◌⊎◌}
+use Rattle.std.specs.Prelude.{ℕ, ◌+◌, ◌*◌, Bool, ◌&&◌, not, List, length, take, max, sum_by, cond, ◌⊎◌}
 use Rattle.std.specs.List.{list_any}
 use Rattle.mm_classes.specs.declared.class.Base.{Base}
 use Rattle.mm_classes.specs.Classes.{Class, bases_of, members_of, field_count, IsPolymorphic}
-use Rattle.mm_classes.specs.Subobjects.{Path, subobjects_of, end_of, IsVirtual}
+use Rattle.mm_classes.specs.Subobjects.{subobjects_of, end_of, IsVirtual}
 
 -- Objects of a class tell their class by a tag where it is polymorphic (ISO/IEC 14882:1998, 10.3) or has a virtual base.
 abbrev pub HasTag : List Class → ℕ → Type 0

@@ -14,18 +14,8 @@ use Rattle.mm_classes.proofs.Compose.{compose-sub, compose-end, compose-assoc, w
 use Rattle.mm_classes.proofs.Deriving.{derives_falls}
 use Rattle.mm_classes.proofs.Ways.{compose-one, links_sub}
 use Rattle.mm_classes.proofs.AccessLaws.{grade-public, access_itself, along_capped, capped-grade, capped}
-use Rattle.mm_lookup.specs.Access.{UsesAt, everywhere, own, derived, MayUse, at_once, by_base}
+use Rattle.mm_lookup.specs.Access.{UsesAt, everywhere, own, derived, MayUse, at_once, by_base, IsCollapsed}
 use Rattle.mm_lookup.proofs.Chains.{along-append, joined}
-
--- a public step to t, and then one of the first three cases at the class of t
-pub record IsCollapsed (g : List Class) (f : Option ℕ) (n : ℕ) (q : Path) (a : Access) : Type 0 where
-  pub step : Path
-  pub rest : Path
-  pub step_in : IsSubobject g n step
-  pub rest_in : IsSubobject g (end_of step) rest
-  pub whole : compose step rest ≡ q
-  pub leads : IsAccess g n step Public (Some Public)
-  pub uses : UsesAt g f (end_of step) rest a
 
 -- some access
 some_of : (x : Option Access) → 1 ≤ grade x → (y : Access) × (x ≡ Some y)
@@ -76,10 +66,10 @@ module _ (g : List Class) (ok : IsClassList g) (law : HasAccess g) where
         are = r.0;
         lead = r.1;
         much = (
-          let o = onward h.links (access_along k.links (Some a)) k.much in
-          let e = ap grade (along-append h.links k.links (Some a)) in
-          let m = h.much in omega arith
-        );
+            let o = onward h.links (access_along k.links (Some a)) k.much in
+            let e = ap grade (along-append h.links k.links (Some a)) in
+            let m = h.much in omega arith
+            );
       }
 
   -- the access that there is
@@ -262,6 +252,7 @@ module _ (g : List Class) (ok : IsClassList g) (law : HasAccess g) where
         uses')
 
   pub collapse : (f : Option ℕ) (n : ℕ) (q : Path) (a : Access) → IsComplete g n → MayUse g f n q a → IsCollapsed g f n q a
+  unfolding t s
   collapse f n q a k (at_once u) = record {
     step = n ∷ [];
     rest = q;

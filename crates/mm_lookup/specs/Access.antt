@@ -4,7 +4,7 @@ use Rattle.std.specs.Prelude.{◌≡◌, ◌≢◌, ℕ, List, [], ◌∷◌, �
 use Rattle.mm_classes.specs.declared.class.Access.{Access}
 use Rattle.mm_classes.specs.declared.class.Access.TheVariants.{Public, Protected, Private}
 use Rattle.mm_classes.specs.Access.{IsAccess}
-use Rattle.mm_classes.specs.Classes.{Class, Derives}
+use Rattle.mm_classes.specs.Classes.{Class, IsComplete, Derives}
 use Rattle.mm_classes.specs.Subobjects.{Path, IsSubobject, end_of, compose}
 
 -- A member of access a of the subobject q may be used where it is named in class n, from a member function of class f or from
@@ -31,3 +31,18 @@ BaseIsAccessible g f c r = MayUse g f c r Public
 abbrev pub IsReached : List Class → Option ℕ → Access → ℕ → ℕ → Type 0
 IsReached g None a c x = Unit {0}
 IsReached g (Some f) a c x = a ≡ Protected → Derives g f c → (x ≡ f) ⊎ Derives g x f
+
+-- The same in two steps: a public one to a subobject, and then one of the first three cases, at that subobject's class. Own.
+pub record IsCollapsed (g : List Class) (f : Option ℕ) (n : ℕ) (q : Path) (a : Access) : Type 0 where
+  pub step : Path
+  pub rest : Path
+  pub step_in : IsSubobject g n step
+  pub rest_in : IsSubobject g (end_of step) rest
+  pub whole : compose step rest ≡ q
+  pub leads : IsAccess g n step Public (Some Public)
+  pub uses : UsesAt g f (end_of step) rest a
+
+-- the two are the same
+pub record Collapses (g : List Class) : Type 0 where
+  pub to : (f : Option ℕ) (n : ℕ) (q : Path) (a : Access) → IsComplete g n → MayUse g f n q a → IsCollapsed g f n q a
+  pub back : (f : Option ℕ) (n : ℕ) (q : Path) (a : Access) → IsCollapsed g f n q a → MayUse g f n q a

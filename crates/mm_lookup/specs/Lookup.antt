@@ -1,11 +1,12 @@
 -- Member lookup. ISO/IEC 14882:1998, 10.2 (member name lookup).
-use Rattle.std.specs.Prelude.{◌≡◌, ℕ, true, false, List, length, Some, slice_get}
+use Rattle.std.specs.Prelude.{◌≡◌, ℕ, ◌<◌, true, false, List, length, Option, None, Some, slice_get}
 use Rattle.mm_classes.specs.declared.class.Member.{Member}
 use Rattle.mm_classes.specs.declared.answer.Up.TheVariants as up
 use Rattle.mm_classes.specs.Lists.{Has}
 use Rattle.mm_classes.specs.Classes.{Class, members_of, is_field}
 use Rattle.mm_classes.specs.Subobjects.{subobjects_of, end_of}
 use Rattle.mm_classes.specs.Questions.{node, Picks, IsLeft}
+use Rattle.mm_classes.specs.Tops.{IsBest}
 use Rattle.mm_lookup.specs.declared.found.Found.{Found}
 use Rattle.mm_lookup.specs.declared.found.Found.TheVariants as found
 
@@ -27,6 +28,12 @@ abbrev pub Finds : List Class → ℕ → List ℕ → Found → Type 0
 Finds g c name found.None = Picks up.None (IsLeft g c (Declares g c name)) (length (subobjects_of g c))
 Finds g c name found.Ambiguous = Picks up.Several (IsLeft g c (Declares g c name)) (length (subobjects_of g c))
 Finds g c name (found.Field n k) = Picks (up.One n) (IsLeft g c (Declares g c name)) (length (subobjects_of g c))
-  × IsFieldNamed (members_of g (end_of (node g c n))) k name
+    × IsFieldNamed (members_of g (end_of (node g c n))) k name
 Finds g c name (found.Functions n) = Picks (up.One n) (IsLeft g c (Declares g c name)) (length (subobjects_of g c))
-  × AreFunctions (members_of g (end_of (node g c n))) name
+    × AreFunctions (members_of g (end_of (node g c n))) name
+
+-- Of the first n subobjects of c, none declares the name; or b does, and where one that does contains all others that do, it
+-- is b. Own.
+abbrev pub IsBestOf : List Class → ℕ → List ℕ → Option ℕ → ℕ → Type 0
+IsBestOf g c name None n = (m : ℕ) → m < n → Declares g c name m → ⊥
+IsBestOf g c name (Some b) n = IsBest g c (Declares g c name) b n

@@ -1,12 +1,12 @@
 //! Member lookup.
 
-ghost use Rattle.std.specs.Prelude.{◌≡◌, ◌⊎◌, ◌<◌, ℕ, length, MatchOption, IfSome};
+ghost use Rattle.std.specs.Prelude.{◌≡◌, ◌⊎◌, ◌<◌, ◌+◌, ℕ, length, MatchOption, IfSome};
 ghost use Rattle.std.specs.Bool.{Decides};
 ghost use Rattle.mm_classes.specs.Classes.{IsClassList, IsComplete};
 ghost use Rattle.mm_classes.specs.Questions.{node, IsNode};
 ghost use Rattle.mm_classes.specs.Subobjects.{subobjects_of, IsWithin};
-ghost use Rattle.mm_classes.specs.Tops.{ContainsAll, IsBest};
-ghost use Rattle.mm_lookup.specs.Lookup.{Declares, Finds};
+ghost use Rattle.mm_classes.specs.Tops.{ContainsAll};
+ghost use Rattle.mm_lookup.specs.Lookup.{Declares, Finds, IsBestOf};
 
 use crate::found::Found;
 use mm_classes::copies::is_a_field;
@@ -40,24 +40,54 @@ fn better(graph: &Graph, c: ClassId, best: Option<NodeId>, at: NodeId) -> NodeId
     }
 }
 
+// The best of one subobject more.
+fn better_with(
+    graph: &Graph,
+    c: ClassId,
+    name: &str,
+    best: Option<NodeId>,
+    at: NodeId,
+) -> Option<NodeId>
+    requires complete { IsComplete graph.now c }
+    requires valid { IsClassList graph.now }
+    requires node { IsNode graph.now c at }
+    requires before { IsBestOf graph.now c name.now best at }
+    ensures { IsBestOf graph.now c name.now result (at + 1) }
+{
+    if !declares(graph, c, at, name) {
+        return best;
+    }
+    Some(better(graph, c, best, at))
+}
+
 // The one subobject that may contain all that declare the name: it begins with the first of them, and goes on to each that the
 // one so far does not contain.
 fn best(graph: &Graph, c: ClassId, name: &str) -> Option<NodeId>
     requires complete { IsComplete graph.now c }
     requires valid { IsClassList graph.now }
-    ensures { MatchOption result ((m : ℕ) → IsNode graph.now c m → Declares graph.now c name.now m → ⊥) (λ b. IsBest graph.now c (Declares graph.now c name.now) b (length (subobjects_of graph.now c))) }
+    ensures { IsBestOf graph.now c name.now result (length (subobjects_of graph.now c)) }
 {
     let count = graph.count(c);
     let mut best = None;
     let mut n = 0;
     while n < count {
-        let at = NodeId { number: n };
-        if declares(graph, c, at, name) {
-            best = Some(better(graph, c, best, at));
-        }
+        best = better_with(graph, c, name, best, NodeId { number: n });
         n += 1;
     }
     best
+}
+
+// Whether a subobject lies in another one, if it declares the name.
+fn lies_in(graph: &Graph, c: ClassId, name: &str, best: NodeId, at: NodeId) -> bool
+    requires complete { IsComplete graph.now c }
+    requires best { IsNode graph.now c best }
+    requires node { IsNode graph.now c at }
+    ensures { Decides result (Declares graph.now c name.now at → IsWithin graph.now (node graph.now c at) (node graph.now c best)) }
+{
+    if !declares(graph, c, at, name) {
+        return true;
+    }
+    graph.contains(c, best, at)
 }
 
 // Whether a subobject contains all that declare the name.
@@ -69,8 +99,7 @@ fn contains_all(graph: &Graph, c: ClassId, name: &str, best: NodeId) -> bool
     let count = graph.count(c);
     let mut n = 0;
     while n < count {
-        let at = NodeId { number: n };
-        if declares(graph, c, at, name) && !graph.contains(c, best, at) {
+        if !lies_in(graph, c, name, best, NodeId { number: n }) {
             return false;
         }
         n += 1;

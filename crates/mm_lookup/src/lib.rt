@@ -1,5 +1,6 @@
 //! Member lookup and access: which member a name means in a class, and who may use it.
 #![tactic(auto)]
 
-pub mod found;
 pub mod find;
+pub mod found;
+pub mod law;

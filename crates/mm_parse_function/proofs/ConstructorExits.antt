@@ -1,8 +1,6 @@
 -- The exits of each reader of initializers and constructor bodies, over plain lists of tokens.
-use Rattle.std.proofs.Common.{◌≡◌, ◌≤◌, List, [], ◌∷◌, ◌++◌, length, refl, ap, sym, ◌∙◌, subst, ℕ, Option, Some, None, append_assoc}
-use Rattle.std.proofs.lemmas.List.{append-nil}
+use Rattle.std.proofs.Common.{◌≡◌, ◌≤◌, List, [], ◌∷◌, length, refl, ap, ℕ, Option, Some, None}
 use Rattle.mm_grammar.specs.Grammar.{name, seq, many, opt, Reads, Fails}
-use Rattle.mm_grammar.proofs.Loops.{SoFar, begun, not_begun, once_more, ended_here, failed_inside}
 use Rattle.mm_token.specs.declared.token.Token.{Token}
 use Rattle.mm_syntax.specs.declared.symbol.Symbol.{Symbol}
 use Rattle.mm_syntax.specs.declared.symbol.Symbol.TheVariants as k
@@ -12,10 +10,8 @@ use Rattle.mm_syntax.specs.declared.decl.Init.{Init}
 use Rattle.mm_syntax.specs.declared.decl.ConstructorBody.{ConstructorBody}
 use Rattle.mm_syntax.specs.BuiltDeclarations as bd
 use Rattle.mm_syntax.specs.Rules.{P, units, token, inits, init, block, call, inside, constructor_body}
-use Rattle.mm_syntax.proofs.Claims.{ahead}
-use Rattle.mm_syntax.proofs.Fitting.{fit}
 use Rattle.mm_cursor.specs.Cursor.{Eats}
-use Rattle.mm_cursor.proofs.Steps.{Took, good, ok_is, ate, taken_shorter, pair, first_fails, second_fails, gives, gives_not, named, named_not, after, after_fails, some, some_fails, none, ungive, ungive_not}
+use Rattle.mm_cursor.proofs.Steps.{Took, ok_is, ate, pair, first_fails, second_fails, gives, gives_not, named, named_not, after, after_fails, some, some_fails, none, ungive, ungive_not}
 use Rattle.mm_parse_function.specs.Parts.{next_init, init_list}
 
 abbrev t : Symbol → P Token
@@ -40,32 +36,6 @@ init_no_inside ts r1 r2 r word x a c d = init_no_call ts r1 r word a (after_fail
 
 pub init_reads : (ts r1 r2 r : List Token) (word x : Token) (xs : List Expr) (v : Init) → Reads units (token words) ts word r1 → Reads units (t k.Open) r1 x r2 → Reads units inside r2 xs r → v ≡ bd.init word xs → Reads units (name init) ts v r
 init_reads ts r1 r2 r word x xs v a c d e = ok_is (name init) ts r v (bd.init word xs) e (named init ts r (bd.init word xs) (gives (λ v. bd.init v.0 v.1) _ ts r (word, xs) (pair (token words) call refl ts r1 r word xs a (after (t k.Open) inside refl r1 r2 r x xs c d))))
-
--- ---- init (, init)*
-
-abbrev pub InitsSoFar : List Init → List Token → List Token → Type 0
-InitsSoFar list ts rest = SoFar units init_list next_init (λ xs. list ++ xs) ts rest
-
-pub list_start : (ts r : List Token) (v : Init) (list : List Init) → Reads units (name init) ts v r → list ≡ v ∷ [] → InitsSoFar list ts r
-list_start ts r v list a e = subst (λ l. InitsSoFar l ts r) (sym e) (begun units ahead fit (λ v. v.0 ∷ v.1) (name init) next_init (good (seq (name init) (many next_init)) refl) ts r v a)
-
-pub list_not : (ts r : List Token) → Fails units (name init) ts r → Fails units init_list ts r
-list_not ts r a = not_begun units ahead fit (λ v. v.0 ∷ v.1) (name init) next_init (good (seq (name init) (many next_init)) refl) ts r a
-
-pub list_step : (ts rest us r : List Token) (list next : List Init) (v : Init) (x : Token) → InitsSoFar list ts rest → Took (k.Comma ∷ []) rest x us → Reads units (name init) us v r → next ≡ list ++ v ∷ [] → InitsSoFar next ts r
-list_step ts rest us r list next v x s h a n =
-    once_more units ahead fit init_list next_init (λ xs. list ++ xs) (λ xs. next ++ xs) (good (many next_init) refl) ts rest r v s
-    (after (t k.Comma) (name init) refl rest us r x v (ate (k.Comma ∷ []) rest us x h) a) (λ xs. sym (ap (λ l. l ++ xs) n ∙ append_assoc list (v ∷ []) xs))
-
-pub list_end : (ts rest us : List Token) (list : List Init) → InitsSoFar list ts rest → Eats (k.Comma ∷ []) rest None us → Reads units init_list ts list us
-list_end ts rest us list s h =
-    subst (λ w. Reads units init_list ts list w) (sym h.0)
-    (subst (λ l. Reads units init_list ts l rest) (append-nil list) (ended_here units ahead fit init_list next_init (λ xs. list ++ xs) (good (many next_init) refl) ts rest s h.1))
-
-pub list_fails : (ts rest us r : List Token) (list : List Init) (x : Token) → InitsSoFar list ts rest → Took (k.Comma ∷ []) rest x us → length r ≤ length us → Fails units (name init) us r → Fails units init_list ts r
-list_fails ts rest us r list x s h n a =
-    failed_inside units ahead fit init_list next_init (λ xs. list ++ xs) (good (many next_init) refl) ts rest r (taken_shorter (k.Comma ∷ []) rest us r x h n) s
-    (after_fails (t k.Comma) (name init) refl rest us r x (ate (k.Comma ∷ []) rest us x h) a)
 
 -- ---- : init (, init)*, where it stands
 

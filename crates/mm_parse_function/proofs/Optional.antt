@@ -21,11 +21,6 @@ use Rattle.mm_cursor.specs.Cursor.{Eats}
 use Rattle.mm_cursor.proofs.Steps.{is_plain, good, ate, some, none}
 use Rattle.mm_parse_function.specs.Parts.{inside_parameters}
 
--- a word, where one stands
-pub word_eaten : (ts r : List Token) (o : Option (Bor Token)) → Eats (k.Word ∷ []) ts o r → Reads units (opt (token (k.Word ∷ []))) ts (option_copied o) r
-word_eaten ts r (Some x) h = some (token (k.Word ∷ [])) refl refl ts r x.now (ate (k.Word ∷ []) ts r x.now h)
-word_eaten ts r None h = none (token (k.Word ∷ [])) (k.Word ∷ []) refl refl ts r h
-
 -- ---- where p doesn't stand
 
 module _ {A : Type 0} (p : P A) (n : IsTrue (not (empty_of units ahead p))) where

@@ -1,10 +1,9 @@
 -- The exits of each reader of parameters, over plain lists of tokens.
-use Rattle.std.proofs.Common.{◌≡◌, ◌≤◌, List, [], ◌∷◌, ◌++◌, length, refl, ap, sym, ◌∙◌, subst, arith, Option, Some, None, option_copied, append_assoc}
+use Rattle.std.proofs.Common.{◌≡◌, ◌≤◌, List, [], ◌∷◌, length, refl, ap, sym, ◌∙◌, subst, arith, Option, Some, None, option_copied}
 use Rattle.std.specs.Borrow.{Bor}
-use Rattle.std.proofs.lemmas.List.{append-nil}
-use Rattle.mm_grammar.specs.Grammar.{name, seq, alt, many, opt, Reads, Fails}
+use Rattle.mm_grammar.specs.Grammar.{name, seq, alt, opt, Reads, Fails}
 use Rattle.mm_grammar.specs.Ahead.{first_of}
-use Rattle.mm_grammar.proofs.Loops.{SoFar, once_more, ended_here, failed_inside, opt_none}
+use Rattle.mm_grammar.proofs.Loops.{opt_none}
 use Rattle.mm_grammar.proofs.Here.{opt_some_of, opt_fail_of, opt_fail_shorter}
 use Rattle.mm_token.specs.declared.token.Token.{Token}
 use Rattle.mm_syntax.specs.declared.symbol.Symbol.{Symbol}
@@ -20,9 +19,9 @@ use Rattle.mm_syntax.specs.Rules.{P, units, token, params, param, type_name, mar
 use Rattle.mm_syntax.proofs.Claims.{ahead}
 use Rattle.mm_syntax.proofs.Fitting.{fit}
 use Rattle.mm_cursor.specs.Cursor.{Eats}
-use Rattle.mm_cursor.proofs.Steps.{Took, good, ok_is, ate, other, avoid_both, taken_shorter, pair, first_fails, second_fails, gives, gives_not, named, named_not, after, after_fails, before, before_then_fails, some, first_reads, first_one_fails, second_reads, second_one_fails, ungive, ungive_not}
-use Rattle.mm_parse_function.specs.Parts.{inside_parameters, void_first, next_param, behind}
-use Rattle.mm_parse_function.proofs.Optional.{word_eaten, none_fails, none_seq, reads_takes, fails_behind}
+use Rattle.mm_cursor.proofs.Steps.{Took, good, ok_is, ate, other, avoid_both, pair, first_fails, second_fails, gives, gives_not, named, named_not, after, after_fails, before, before_then_fails, some, first_reads, first_one_fails, second_reads, second_one_fails, ungive, ungive_not, token_taken}
+use Rattle.mm_parse_function.specs.Parts.{inside_parameters, void_first, behind}
+use Rattle.mm_parse_function.proofs.Optional.{none_fails, none_seq, reads_takes, fails_behind}
 
 abbrev t : Symbol → P Token
 t symbol = token (symbol ∷ [])
@@ -33,7 +32,7 @@ pub param_end_no_mark : (ts r : List Token) → Fails units (opt mark) ts r → 
 param_end_no_mark ts r a = gives_not (λ v. bd.param_end v.0 v.1) _ _ _ (first_fails (opt mark) (opt (t k.Word)) refl ts r a)
 
 pub param_end_reads : (ts r1 r : List Token) (before : Option DeclaratorMark) (o : Option (Bor Token)) (v : ParamEnd) → Reads units (opt mark) ts before r1 → Eats (k.Word ∷ []) r1 o r → v ≡ bd.param_end before (option_copied o) → Reads units param_end ts v r
-param_end_reads ts r1 r before o v a h e = ok_is param_end ts r v (bd.param_end before (option_copied o)) e (gives (λ v. bd.param_end v.0 v.1) _ _ _ (before, option_copied o) (pair (opt mark) (opt (t k.Word)) refl ts r1 r before (option_copied o) a (word_eaten r1 r o h)))
+param_end_reads ts r1 r before o v a h e = ok_is param_end ts r v (bd.param_end before (option_copied o)) e (gives (λ v. bd.param_end v.0 v.1) _ _ _ (before, option_copied o) (pair (opt mark) (opt (t k.Word)) refl ts r1 r before (option_copied o) a (token_taken (k.Word ∷ []) refl r1 r o h)))
 
 -- ---- the same, but not empty
 
@@ -45,7 +44,7 @@ void_end_marked ts us r x o v h i e =
     let w = bd.param_end (Some (b.mark_of x)) (option_copied o) in
     ok_is (opt void_end) ts r (Some v) (Some w) (ap (λ z. Some z) e) (some void_end refl refl ts r w
     (first_reads _ _ marks refl refl ts us r x w h
-    (gives (λ v. bd.param_end (Some v.0) v.1) _ _ _ (b.mark_of x, option_copied o) (pair mark (opt (t k.Word)) refl ts us r (b.mark_of x) (option_copied o) (gives b.mark_of (token marks) ts us x (ate marks ts us x h)) (word_eaten us r o i)))))
+    (gives (λ v. bd.param_end (Some v.0) v.1) _ _ _ (b.mark_of x, option_copied o) (pair mark (opt (t k.Word)) refl ts us r (b.mark_of x) (option_copied o) (gives b.mark_of (token marks) ts us x (ate marks ts us x h)) (token_taken (k.Word ∷ []) refl us r o i)))))
 
 pub void_end_named : (ts us r : List Token) (x : Token) (v : ParamEnd) → Eats marks ts None us → Took (k.Word ∷ []) us x r → v ≡ bd.param_end None (Some x) → Reads units (opt void_end) ts (Some v) r
 void_end_named ts us r x v h i e =
@@ -119,29 +118,6 @@ param_other ts us r v h a = named param ts r v (second_reads _ _ (k.Void ∷ [])
 
 pub param_no_other : (ts us r : List Token) → Eats (k.Void ∷ []) ts None us → Fails units other_param us r → Fails units (name param) ts r
 param_no_other ts us r h a = named_not param ts r (second_one_fails _ _ (k.Void ∷ []) refl refl refl ts us r h a)
-
--- ---- (, param)*, behind a first one
-
-abbrev pub ParamsSoFar : Param → List Param → List Token → List Token → Type 0
-ParamsSoFar first list ts rest = SoFar units (behind first) next_param (λ xs. list ++ xs) ts rest
-
-pub more_start : (ts : List Token) (first : Param) (list : List Param) → list ≡ first ∷ [] → ParamsSoFar first list ts ts
-more_start ts first list e = subst (λ l. ParamsSoFar first l ts ts) (sym e) (record { reads = λ xs r a. gives (λ xs. first ∷ xs) more_params ts r xs a; fails = λ r a. gives_not (λ xs. first ∷ xs) more_params ts r a })
-
-pub more_step : (ts rest us r : List Token) (first : Param) (list next : List Param) (v : Param) (x : Token) → ParamsSoFar first list ts rest → Took (k.Comma ∷ []) rest x us → Reads units (name param) us v r → next ≡ list ++ v ∷ [] → ParamsSoFar first next ts r
-more_step ts rest us r first list next v x s h a n =
-    once_more units ahead fit (behind first) next_param (λ xs. list ++ xs) (λ xs. next ++ xs) (good (many next_param) refl) ts rest r v s
-    (after (t k.Comma) (name param) refl rest us r x v (ate (k.Comma ∷ []) rest us x h) a) (λ xs. sym (ap (λ l. l ++ xs) n ∙ append_assoc list (v ∷ []) xs))
-
-pub more_end : (ts rest us : List Token) (first : Param) (list : List Param) → ParamsSoFar first list ts rest → Eats (k.Comma ∷ []) rest None us → Reads units (behind first) ts list us
-more_end ts rest us first list s h =
-    subst (λ w. Reads units (behind first) ts list w) (sym h.0)
-    (subst (λ l. Reads units (behind first) ts l rest) (append-nil list) (ended_here units ahead fit (behind first) next_param (λ xs. list ++ xs) (good (many next_param) refl) ts rest s h.1))
-
-pub more_fails : (ts rest us r : List Token) (first : Param) (list : List Param) (x : Token) → ParamsSoFar first list ts rest → Took (k.Comma ∷ []) rest x us → length r ≤ length us → Fails units (name param) us r → Fails units (behind first) ts r
-more_fails ts rest us r first list x s h n a =
-    failed_inside units ahead fit (behind first) next_param (λ xs. list ++ xs) (good (many next_param) refl) ts rest r (taken_shorter (k.Comma ∷ []) rest us r x h n) s
-    (after_fails (t k.Comma) (name param) refl rest us r x (ate (k.Comma ∷ []) rest us x h) a)
 
 -- ---- what follows a first `void`
 

@@ -1,6 +1,6 @@
 // Trees of parameters, initializers and functions, from their tokens and parts.
 
-ghost use Rattle.std.specs.Prelude.{◌≡◌, [], ◌∷◌, ◌++◌, Some, None, IfOk, OnOk, option_copied};
+ghost use Rattle.std.specs.Prelude.{◌≡◌, Some, None, IfOk, option_copied};
 ghost use Rattle.mm_syntax.specs.Built as b;
 ghost use Rattle.mm_syntax.specs.BuiltDeclarations as bd;
 ghost use Rattle.mm_syntax.specs.declared.part.FunctionEnd.TheVariants as end_of;
@@ -70,23 +70,6 @@ pub fn void_param(alloc: Global, word: &Token, end: ParamEnd) -> Result<Boxed<Pa
     param(alloc, None, word_type_name(word), end)
 }
 
-/// A list of one parameter.
-pub fn single_param(alloc: Global, item: Boxed<Param>) -> Result<Items<Param>, AllocError>
-    ensures { IfOk result (λ v. v ≡ item ∷ []) }
-{
-    let mut list = Items::new(alloc);
-    list.push(item.into_inner())?;
-    Ok(list)
-}
-
-/// Adds a parameter to a list.
-pub fn push_param(list: &mut Items<Param>, item: Boxed<Param>) -> Result<(), AllocError>
-    ensures { OnOk result (list.new ≡ list.old ++ item ∷ []) }
-{
-    list.push(item.into_inner())?;
-    Ok(())
-}
-
 /// Parameters as a list, without `void` alone.
 pub fn params(alloc: Global, list: Items<Param>) -> Result<Boxed<Params>, AllocError>
     ensures { IfOk result (λ v. v ≡ bd.params_of list) }
@@ -119,23 +102,6 @@ pub fn init(alloc: Global, word: &Token, arguments: Items<Expr>) -> Result<Boxed
 {
     let name = name(alloc, word)?;
     Boxed::new(alloc, Init { name, arguments })
-}
-
-/// A list of one initializer.
-pub fn single_init(alloc: Global, item: Boxed<Init>) -> Result<Items<Init>, AllocError>
-    ensures { IfOk result (λ v. v ≡ item ∷ []) }
-{
-    let mut list = Items::new(alloc);
-    list.push(item.into_inner())?;
-    Ok(list)
-}
-
-/// Adds an initializer to a list.
-pub fn push_init(list: &mut Items<Init>, item: Boxed<Init>) -> Result<(), AllocError>
-    ensures { OnOk result (list.new ≡ list.old ++ item ∷ []) }
-{
-    list.push(item.into_inner())?;
-    Ok(())
 }
 
 /// What a constructor does, of its initializers where there are any, and its block.

@@ -7,6 +7,7 @@ ghost use Rattle.mm_syntax.specs.Rules as rules;
 ghost use Rattle.mm_parse_function.specs.Parts.{init_list};
 
 use crate::build;
+use mm_cursor::list::{push, single};
 use mm_cursor::{Cursor, Stop};
 use mm_parse_expr::parser::inside;
 use mm_parse_stmt::stmt::block;
@@ -47,10 +48,10 @@ fn init_list(alloc: Global, cursor: &mut Cursor<'_>) -> Result<Items<Init>, Stop
     ensures shorter { length cursor.new ≤ length cursor.old }
 {
     let first = init(alloc, cursor)?;
-    let mut list = build::single_init(alloc, first)?;
+    let mut list = single(alloc, first)?;
     while cursor.eat(&[Symbol::Comma]).is_some() {
         let next = init(alloc, cursor)?;
-        build::push_init(&mut list, next)?;
+        push(&mut list, next)?;
     }
     Ok(list)
 }

@@ -7,6 +7,7 @@ ghost use Rattle.mm_syntax.specs.Rules as rules;
 ghost use Rattle.mm_parse_function.specs.Parts.{inside_parameters, void_first, behind};
 
 use crate::build;
+use mm_cursor::list::{push, single};
 use mm_cursor::{Cursor, Stop};
 use mm_parse_var::types::{mark, object_type, type_name};
 use mm_syntax::decl::{Param, Params};
@@ -74,10 +75,10 @@ fn more_params(
     ensures reads { Answers (behind first) cursor.old result cursor.new }
     ensures shorter { length cursor.new ≤ length cursor.old }
 {
-    let mut list = build::single_param(alloc, first)?;
+    let mut list = single(alloc, first)?;
     while cursor.eat(&[Symbol::Comma]).is_some() {
         let next = param(alloc, cursor)?;
-        build::push_param(&mut list, next)?;
+        push(&mut list, next)?;
     }
     Ok(list)
 }

@@ -234,7 +234,12 @@ fn a_comment_behind_a_directive_has_its_own_faults(rt: HostRuntime) -> Result<()
         (b"#include // \"a.h\"", b"", 1, "m.cc:1:1: L5\n"),
         (b"#include \"a.h\" // \xe9", b"", 1, "m.cc:1:19: L1\n"),
         (b"#include \"a.h\" // \xe9", b"\n /*", 1, "a.h:2:2: L2\n"),
-        (b"#include \"a.h\" // \"\nint main() { return 0; }", b"", 0, ""),
+        (
+            b"#include \"a.h\" // \"\nint main() { return 0; }",
+            b"",
+            0,
+            "",
+        ),
         (b"#include \"a//h\"", b"", 3, "mmc: no file a//h\n"),
         (b"#include \"a.h\" \"// \xe9", b"", 1, "m.cc:1:1: L5\n"),
     ];

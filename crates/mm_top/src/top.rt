@@ -25,7 +25,11 @@ fn joined(alloc: Global, front: &[u8], name: &str, back: &[u8]) -> Result<Vec<u8
 fn behind_code(code: Code) -> &'static [u8]
     ensures { result.now ≡ behind code }
 {
-    if code.letter == PRELINK { b" main" } else { b"" }
+    if code.letter == PRELINK {
+        b" main"
+    } else {
+        b""
+    }
 }
 
 fn fault_line(alloc: Global, code: Code, place: Place, file: &str) -> Result<Vec<u8>, AllocError>

@@ -1,7 +1,7 @@
-use Rattle.std.proofs.Common.{◌≡◌, ℕ, ◌+◌, ◌<◌, ◌++◌, ◌∷◌, [], List, arith, ap, ◌∙◌, sym, length, map, get_or, subst}
+use Rattle.std.proofs.Common.{◌≡◌, ◌+◌, ◌<◌, ◌++◌, ◌∷◌, [], List, arith, ap, ◌∙◌, sym, length, subst}
 use Rattle.std.proofs.lemmas.List.{length_push, length-map, map-append}
 use Rattle.mm_classes.specs.Classes.{IsComplete}
-use Rattle.mm_layout.specs.Layouts.{Object, nothing, object_at, AreOffsets, ArePlaces, IsLayoutOf, test_of}
+use Rattle.mm_layout.specs.Layouts.{nothing, AreOffsets, ArePlaces, test_of}
 use Rattle.mm_layout.specs.Kept.{object_in, objects_in}
 use Rattle.mm_layout.specs.declared.layout.Placed.{Placed}
 use Rattle.mm_layout.proofs.Offsets.{lays_out, fills}

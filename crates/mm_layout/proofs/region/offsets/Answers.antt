@@ -1,7 +1,6 @@
-use Rattle.std.proofs.Common.{◌≡◌, ℕ, ◌+◌, ◌<◌, arith, ap, ◌∙◌, sym, length}
+use Rattle.std.proofs.Common.{◌≡◌, ◌+◌, arith, ap, ◌∙◌, sym, length}
 use Rattle.std.proofs.lemmas.List.{length_push}
-use Rattle.mm_classes.specs.Questions.{node, IsNode}
-use Rattle.mm_classes.specs.Subobjects.{end_of}
+use Rattle.mm_classes.specs.Questions.{IsNode}
 use Rattle.mm_layout.specs.Regions.{offset_of, region_of}
 use Rattle.mm_layout.specs.Layouts.{test_of}
 use Rattle.mm_layout.proofs.Offsets.{offset-more}

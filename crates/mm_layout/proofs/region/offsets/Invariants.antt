@@ -1,4 +1,4 @@
-use Rattle.std.proofs.Common.{◌≡◌, ℕ, ◌+◌, ◌*◌, ◌<◌, ◌≤◌, ◌-◌, get_or, length}
+use Rattle.std.proofs.Common.{◌≡◌, ℕ, ◌*◌, ◌<◌, ◌≤◌, ◌-◌, get_or, length}
 use Rattle.mm_layout.specs.Regions.{offset_of}
 use Rattle.mm_layout.specs.Layouts.{test_of}
 use Rattle.mm_layout.proofs.region.offsets.Given as goal

@@ -1,4 +1,4 @@
-use Rattle.std.proofs.Common.{◌≡◌, ℕ, ◌+◌, ◌*◌, ◌<◌, ◌≤◌, ◌-◌, get_or, length, take}
+use Rattle.std.proofs.Common.{◌≡◌, ℕ, ◌+◌, ◌<◌, ◌≤◌, ◌-◌, get_or, length, take}
 use Rattle.mm_classes.specs.Classes.{field_count}
 use Rattle.mm_layout.specs.Regions.{place_of, own_cells}
 use Rattle.mm_layout.specs.Layouts.{test_of}

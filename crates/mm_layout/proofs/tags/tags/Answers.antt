@@ -1,4 +1,4 @@
-use Rattle.std.proofs.Common.{◌≡◌, ℕ, ◌+◌, arith, ap, ◌∙◌, length, false}
+use Rattle.std.proofs.Common.{◌+◌, arith, ap, ◌∙◌, length, false}
 use Rattle.std.proofs.lemmas.List.{length_push}
 use Rattle.std.specs.Bool.{Decides}
 use Rattle.mm_layout.specs.Regions.{HasTag}
