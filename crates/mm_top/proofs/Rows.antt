@@ -1,4 +1,5 @@
--- What every C program does that translates `int main() { mm_put(1 + 2); return 0; }`, and one of a sum past the greatest `int`.
+-- What every C program does that translates `int main() { mm_put(1 + 2); return 0; }`, and what one
+-- does of a sum past the greatest `int`.
 use Rattle.std.proofs.Common.{◌≡◌, ℕ, List, [], ◌∷◌}
 use Rattle.std.specs.Prelude.{pos}
 use Rattle.mm_base.specs.declared.world.Builtin.TheVariants.{Put}

@@ -59,8 +59,8 @@ pub record IsRead (held : Option Contents) (name : List ℕ) (tokens : Tokens) (
   pub reads : Reads held name tokens
   pub is_tree : IsTreeOf tokens tree
 
--- The files give a unit under the name, whose trees are all built, and which defines `int main()`; checked, it is this
--- function.
+-- The files give a unit under the name, whose trees are all built, and which defines `int main()`;
+-- checked, it is this function.
 pub record IsSound (held : Option Contents) (name : List ℕ) (main : Function) : Type 0 where
   pub tokens : Tokens
   pub tree : UnitTree
@@ -111,8 +111,8 @@ IsLong held name file = IsRefused held name (token_end.TooLong file)
 abbrev pub IsUnread : Option Contents → List ℕ → List ℕ → Type 0
 IsUnread held name file = IsRefused held name (token_end.Failed file)
 
--- The text spells a C program that, for every input and at every bound on the steps, ends, traps or goes on as the
--- program of this one function does, puts the same numbers, and is never stuck.
+-- The text spells a C program that, for every input and at every bound on the steps, ends, traps or
+-- goes on as the program of this one function does, puts the same numbers, and is never stuck.
 pub record IsDue (main : Function) (text : List ℕ) : Type 0 where
   pub program : c.Program
   pub spells : SpellsProgram text program
@@ -208,7 +208,9 @@ pub record Answers (status : ℕ) (asked : Option (List ℕ)) (files : Change Fi
   -- no other status is given
   pub only : (status ≡ 0) ⊎ (status ≡ 1) ⊎ (status ≡ 2) ⊎ (status ≡ 3) ⊎ (status ≡ 4) ⊎ (status ≡ 13) ⊎ (status ≡ 9)
   -- The other way, where files tell what they hold and have not failed, and out has not: each case has its status, or memory ran out.
-  pub complete : (h : Contents) (name : List ℕ) (main : Function) → files.old.held ≡ Some h → asked ≡ Some name → IsSound (Some h) name main → (FilesFailed files → ⊥) → (SinkFailed out → ⊥) → (status ≡ 0) ⊎ (status ≡ 9)
+  pub complete : (h : Contents) (name : List ℕ) (main : Function) → files.old.held ≡ Some h →
+      asked ≡ Some name → IsSound (Some h) name main → (FilesFailed files → ⊥) →
+      (SinkFailed out → ⊥) → (status ≡ 0) ⊎ (status ≡ 9)
   pub refused : (h : Contents) (name : List ℕ) (f : Fault) → files.old.held ≡ Some h → asked ≡ Some name → IsFaulty (Some h) name f → (FilesFailed files → ⊥) → ((status ≡ 1) × Says (fault_message f.code f.place f.file) err) ⊎ (status ≡ 9)
   pub past_limit : (h : Contents) (name file : List ℕ) → files.old.held ≡ Some h → asked ≡ Some name → IsLong (Some h) name file → (FilesFailed files → ⊥) → (status ≡ 13) ⊎ (status ≡ 9)
   pub missing : (h : Contents) (name file : List ℕ) → files.old.held ≡ Some h → asked ≡ Some name → IsAbsent (Some h) name file → (FilesFailed files → ⊥) → (status ≡ 3) ⊎ (status ≡ 9)

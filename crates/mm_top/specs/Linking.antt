@@ -23,7 +23,8 @@ EndsFor ending name tokens = (files : Change FilesSeen) → Reads files.old.held
 abbrev pub EndsForTree : Ending → List ℕ → Tokens → UnitTree → Type 0
 EndsForTree ending name tokens tree = IsTreeOf tokens tree → EndsFor ending name tokens
 
--- The tree is a first text, all of it built, and `int main()` among it; checked, it is this function.
+-- The tree is a first text, all of it built, and `int main()` among it; checked, it is this
+-- function.
 pub record IsFirst (tree : UnitTree) (main : Function) : Type 0 where
   pub built : IsBuilt tree
   pub defined : DefinesMain tree

@@ -106,7 +106,8 @@ fn parse(alloc: Global, name: &str, tokens: &Tokens) -> Result<Unit, Ending>
 
 /// The checked `main` of a tree.
 fn check(alloc: Global, name: &str, tokens: &Tokens, tree: &Unit) -> Result<CoreFn, Ending>
-    ensures { MatchResult result (λ f. IsFirst tree.now (function_view f)) (λ e. EndsForTree e name.now tokens.now tree.now) }
+    ensures { MatchResult result (λ f. IsFirst tree.now (function_view f))
+        (λ e. EndsForTree e name.now tokens.now tree.now) }
 {
     if let Some(place) = walk_any(tree, Forms::all()) {
         return Err(fault(alloc, Code::N0, place, tokens));
@@ -120,7 +121,8 @@ fn check(alloc: Global, name: &str, tokens: &Tokens, tree: &Unit) -> Result<Core
 
 /// The checked `main` of these tokens.
 fn front(alloc: Global, name: &str, tokens: &Tokens) -> Result<CoreFn, Ending>
-    ensures { MatchResult result (λ f. AreFirst tokens.now (function_view f)) (λ e. EndsFor e name.now tokens.now) }
+    ensures { MatchResult result (λ f. AreFirst tokens.now (function_view f))
+        (λ e. EndsFor e name.now tokens.now) }
 {
     match parse(alloc, name, tokens) {
         Ok(tree) => check(alloc, name, tokens, &tree),
