@@ -2,7 +2,7 @@
 use Rattle.std.proofs.Common.{◌≡◌, ℕ, suc, ◌+◌, ◌<◌, List, [], ◌∷◌, ◌++◌, Option, Some, None, refl, ap, sym, ◌∙◌, length, map, take, drop, get_or}
 use Rattle.std.proofs.lemmas.List.{map_more, map-append}
 use Rattle.std.proofs.Math.Seq.{split_at}
-use Rattle.mm_check_unit.specs.declared.first.Stmt.{Stmt}
+use Rattle.mm_core.specs.Tree.{Stmt}
 use Rattle.mm_check_unit.specs.First.{StmtMeant, no_stmt, one_stmt, block, block_with, block_meant, body_meant}
 use Rattle.mm_check_unit.specs.Parts.{stmt_of}
 

@@ -18,8 +18,8 @@ use Rattle.mm_syntax.specs.Forms.{Shown, is_built, only_if, is_block, is_main, f
 use Rattle.mm_syntax.specs.Shown.{member_shown, shown_stmt, body_shown, maybe_body, maybe_block, fn_shown, class_shown, decl_shown, shown_decl, unit_shown}
 use Rattle.mm_syntax.proofs.Shown.{unit-shown}
 use Rattle.std.specs.List.{flat_map}
-use Rattle.mm_check_unit.specs.declared.first.Stmt.{Stmt}
-use Rattle.mm_check_unit.specs.First.{StmtMeant, meant_stmt, body_meant, fn_meant, decl_meant, decls_meant}
+use Rattle.mm_core.specs.Tree.{Function}
+use Rattle.mm_check_unit.specs.First.{StmtMeant, meant_stmt, body_meant, main_with, main_meant, fn_meant, decl_meant, decls_meant}
 use Rattle.mm_check_unit.specs.Laws.{HasMain, BuiltIsFirst}
 use Rattle.mm_check_unit.proofs.Marks.{Good, AllGood, no_marks, plain_good, form_good, good-append, good_map}
 use Rattle.mm_check_unit.proofs.Stmts.{StmtSays, stmt_right, type_good}
@@ -58,19 +58,19 @@ unit_good u = plain_good (unit_built (map shown_decl u.decls)) u.place (map show
 
 -- ---- a built function is a first text
 
-abbrev Has : Option (List Stmt) → Type 0
-Has o = (ss : List Stmt) × (o ≡ Some ss)
+abbrev Has : Option Function → Type 0
+Has o = (f : Function) × (o ≡ Some f)
 
-body_has : (b : Built) (m : StmtMeant) → StmtSays b m → is_built (only_if (is_block b) built.Function) ≡ true → Has (body_meant m)
-body_has built.Block m p e = (p.0, ap body_meant p.1)
-body_has _ m p e = absurd (cc)
+body_has : (place : Place) (b : Built) (m : StmtMeant) → StmtSays b m → is_built (only_if (is_block b) built.Function) ≡ true → Has (main_meant place (body_meant m))
+body_has place built.Block m p e = (main_with place p.0, ap (λ n. main_meant place (body_meant n)) p.1)
+body_has place _ m p e = absurd (cc)
 
-main_has : (main : Bool) (b : Built) (m : StmtMeant) → StmtSays b m → is_built (only_if (main && is_block b) built.Function) ≡ true → Has (if main then body_meant m else None)
-main_has true b m p e = body_has b m p e
-main_has false b m p e = absurd (cc)
+main_has : (place : Place) (main : Bool) (b : Built) (m : StmtMeant) → StmtSays b m → is_built (only_if (main && is_block b) built.Function) ≡ true → Has (if main then main_meant place (body_meant m) else None)
+main_has place true b m p e = body_has place b m p e
+main_has place false b m p e = absurd (cc)
 
 fn_has : (x : FnDeclKind) (place : Place) → is_built (fn_shown x place).built ≡ true → Has (fn_meant x)
-fn_has (f.Definition x body) place e = main_has (is_main x) (shown_stmt body).built (meant_stmt body) (stmt_right body).says e
+fn_has (f.Definition x body) place e = main_has x.name.place (is_main x) (shown_stmt body).built (meant_stmt body) (stmt_right body).says e
 fn_has _ place e = absurd (cc)
 
 class_has : (x : ClassDeclKind) (place : Place) → is_built (class_shown x place).built ≡ true → ⊥

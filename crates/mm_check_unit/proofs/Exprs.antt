@@ -13,21 +13,21 @@ use Rattle.mm_syntax.specs.declared.form.Form.{Form}
 use Rattle.mm_syntax.specs.declared.form.Form.TheVariants as form
 use Rattle.mm_syntax.specs.declared.walk.Built.{Built}
 use Rattle.mm_syntax.specs.declared.walk.Built.TheVariants as built
+use Rattle.mm_core.specs.Tree as core
 use Rattle.mm_syntax.specs.Tree as t
 use Rattle.mm_syntax.specs.View.{expr_step as expr_node, kind_view, expr_view, exprs_view}
 use Rattle.mm_syntax.specs.Forms.{Shown, of_form, plain, only_if, is_callee, is_sum, number_built, name_built, sum_built, make_form, unary_shown, call_shown, expr_shows, exprs_show}
 use Rattle.mm_syntax.specs.Shown.{shown_expr}
 use Rattle.mm_syntax.proofs.Shown.{exprs-shown}
-use Rattle.mm_check_unit.specs.declared.first.Sum.{Sum}
-use Rattle.mm_check_unit.specs.First.{Meant, nothing, sum, callee, put, number_meant, name_meant, sum_meant, call_meant, expr_meant, meant}
+use Rattle.mm_check_unit.specs.First.{Meant, nothing, number, sum, callee, put, number_meant, name_meant, sum_meant, call_meant, expr_meant, meant}
 use Rattle.mm_check_unit.proofs.Marks.{Good, AllGood, plain_good, form_good}
 
 -- what a built expression means
 abbrev pub Says : Built → Meant → Type 0
-Says built.Number m = (n : ℕ) × (m ≡ sum (record { first = n; more = [] }))
-Says built.Sum m = (a : Sum) × (m ≡ sum a)
+Says built.Number m = (n : ℕ) × (m ≡ number n)
+Says built.Sum m = (e : core.Expr) × (m ≡ sum e)
 Says built.Callee m = m ≡ callee
-Says built.Call m = (a : Sum) × (m ≡ put a)
+Says built.Call m = (e : core.Expr) × (m ≡ put e)
 Says _ m = Unit {0}
 
 pub record Right (s : Shown) (m : Meant) : Type 0 where
@@ -40,7 +40,7 @@ formed own place inside m = record { good = form_good own place inside; says = t
 plainly : (own : Built) (place : Place) (inside : List Shown) (m : Meant) → AllGood inside → Says own m → Right (plain own place inside) m
 plainly own place inside m g h = record { good = plain_good own place inside g; says = h }
 
-number_says : (b : Bool) (n : ℕ) → Says (only_if b built.Number) (if b then sum (record { first = n; more = [] }) else nothing)
+number_says : (b : Bool) (n : ℕ) → Says (only_if b built.Number) (if b then number n else nothing)
 number_says true n = (n, refl)
 number_says false n = tt
 

@@ -22,9 +22,8 @@ use Rattle.mm_syntax.specs.View.{maybe_view, stmt_step as stmt_node, stmt_kind_v
 use Rattle.mm_syntax.specs.Forms.{Shown, plain, only_if, is_statement, all_statements, type_built, run_built, return_built, block_built, type_shown, shown_type, mark_or, maybe_shows, stmt_shows}
 use Rattle.mm_syntax.specs.Shown.{shown_expr, maybe_expr, initial_shown, declarator_shown, variables_shown, start_shown, return_shown, shown_stmt}
 use Rattle.mm_syntax.proofs.Shown.{stmts-shown, maybe-shown, variables-shown, start-shown, return-shown}
-use Rattle.mm_check_unit.specs.declared.first.Stmt.{Stmt}
-use Rattle.mm_check_unit.specs.declared.first.Stmt.TheVariants.{Put}
-use Rattle.mm_check_unit.specs.First.{Meant, meant, StmtMeant, no_stmt, one_stmt, block, run_meant, value_meant, return_meant, block_with, block_meant, stmt_meant, meant_stmt}
+use Rattle.mm_core.specs.Tree.{Stmt}
+use Rattle.mm_check_unit.specs.First.{Meant, meant, StmtMeant, no_stmt, one_stmt, block, run_meant, return_value, value_of, return_meant, block_with, block_meant, stmt_meant, meant_stmt}
 use Rattle.mm_check_unit.proofs.Marks.{Good, AllGood, plain_good, form_good, good-append, good_flat}
 use Rattle.mm_check_unit.proofs.Exprs.{Says, expr_right}
 use Rattle.mm_check_unit.proofs.Trees.{kind_meant}
@@ -79,12 +78,12 @@ plainly : (own : Built) (place : Place) (inside : List Shown) (m : StmtMeant) �
 plainly own place inside m g h = record { good = plain_good own place inside g; says = h }
 
 run_says : (b : Built) (m : Meant) → Says b m → StmtSays (run_built b) (run_meant m)
-run_says built.Call m p = (Put p.0, ap run_meant p.1)
+run_says built.Call m p = (_, ap run_meant p.1)
 run_says _ m p = tt
 
-value_says : (b : Built) (m : Meant) → Says b m → StmtSays (return_built b) (value_meant m)
-value_says built.Number m p = (_, ap value_meant p.1)
-value_says built.Sum m p = (_, ap value_meant p.1)
+value_says : (b : Built) (m : Meant) → Says b m → StmtSays (return_built b) (return_value (value_of m))
+value_says built.Number m p = (_, ap (λ n. return_value (value_of n)) p.1)
+value_says built.Sum m p = (_, ap (λ n. return_value (value_of n)) p.1)
 value_says _ m p = tt
 
 with_says : (x : Built) (b : Bool) (m n : StmtMeant) → StmtSays x m → StmtSays (only_if b built.Block) n → StmtSays (only_if (is_statement x && b) built.Block) (block_with m n)
@@ -120,7 +119,7 @@ block_says (e ∷ es) = with_says (shown_stmt e.0).built (all_statements (map sh
 
 return_right : (x : Option Expr) (place : Place) → StmtRight (return_shown x place) (return_meant x)
 return_right None place = plainly built.Nothing place [] no_stmt tt tt
-return_right (Some x) place = plainly (return_built (shown_expr x).built) place (shown_expr x ∷ []) (value_meant (meant x)) (expr_good x, tt) (value_says (shown_expr x).built (meant x) (expr_right x).says)
+return_right (Some x) place = plainly (return_built (shown_expr x).built) place (shown_expr x ∷ []) (return_value (value_of (meant x))) (expr_good x, tt) (value_says (shown_expr x).built (meant x) (expr_right x).says)
 
 abbrev plain_kind : StmtKind-F KindProved Proved → StmtKind-F StmtKind StmtTree
 plain_kind = map-StmtKind KindProved Proved StmtKind StmtTree (λ e. e.0) (λ e. e.0)

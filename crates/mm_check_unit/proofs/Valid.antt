@@ -1,11 +1,22 @@
--- Each number of a first text is less than 2^31, so the statements that are checked from it are valid.
-use Rattle.std.proofs.Common.{◌≡◌, ℕ, ◌^◌, ◌<◌, Bool, true, false, not, ◌&&◌, if◌then◌else◌, List, [], ◌∷◌, ◌++◌, Option, Some, None, refl, sym, ap, subst, map, codes, arith}
-use Rattle.std.specs.Prelude.{pos, IsTrue, nat_lt}
+-- Each number of a first text is less than 2^31, so the program of its checked `main` is valid and small.
+use Rattle.std.proofs.Common.{◌≡◌, ℕ, zero, suc, max, ◌^◌, ◌<◌, ◌≤◌, Bool, true, false, not, ◌&&◌, if◌then◌else◌, List, [], ◌∷◌, Option, Some, None, inl, refl, sym, ap, ap₂, subst, map, codes, arith}
+use Rattle.std.specs.Prelude.{pos, IsTrue, nat_lt, slice_get}
 use Rattle.std.specs.Str.{bytes_eq}
 use Rattle.std.proofs.lemmas.Bool.{ltb-true}
 use Rattle.mm_base.specs.Num.{is_int}
-use Rattle.mm_core.specs.Tree.{Add, Expr, int, binary}
-use Rattle.mm_core.specs.Valid.{int_type, type_of, IsValid, AreValidStmts}
+use Rattle.mm_base.specs.declared.place.Place.{Place}
+use Rattle.mm_base.specs.declared.world.Builtin.TheVariants as builtins
+use Rattle.mm_classes.specs.declared.class.Ty.TheVariants as ty
+use Rattle.mm_classes.specs.Lists.{Has, first, later}
+use Rattle.mm_classes.specs.Classes.{IsClassList}
+use Rattle.mm_core.specs.declared.part.Operator.TheVariants.{Add}
+use Rattle.mm_core.specs.Tree.{Expr, int, binary, builtin, expr_and, no_exprs, Stmt, run, return, Function, Program}
+use Rattle.mm_core.specs.Tree as core
+use Rattle.mm_core.specs.View.{stmts_of}
+use Rattle.mm_core.specs.Valid.{is_number, Around, type_of, IsValid, IsValidStmt, AreValidStmts}
+use Rattle.mm_core.specs.ValidProgram.{numbers_below, around, IsMerged, IsValidProgram, IsValidFunction}
+use Rattle.mm_simulate.specs.Lowered.{reach, reach_stmt, reach_stmts, nesting, nesting_stmt, nesting_stmts}
+use Rattle.mm_simulate.specs.Simulates.{IsShallow}
 use Rattle.mm_syntax.specs.Numbers.{is_unsigned, is_int_number}
 use Rattle.mm_syntax.specs.Forms.{is_main}
 use Rattle.mm_syntax.specs.declared.name.Number.{Number}
@@ -22,47 +33,51 @@ use Rattle.mm_syntax.specs.declared.decl.FnDeclKind.TheVariants as f
 use Rattle.mm_syntax.specs.declared.decl.Decl.{Decl}
 use Rattle.mm_syntax.specs.declared.decl.DeclKind.{DeclKind}
 use Rattle.mm_syntax.specs.declared.decl.DeclKind.TheVariants as d
-use Rattle.mm_check_unit.specs.declared.first.Sum.{Sum}
-use Rattle.mm_check_unit.specs.declared.first.Stmt.{Stmt}
-use Rattle.mm_check_unit.specs.declared.first.Stmt.TheVariants.{Put, Return}
-use Rattle.mm_check_unit.specs.First.{Meant, nothing, sum, callee, put, number_meant, with_number, sum_meant, call_meant, expr_meant, meant, StmtMeant, no_stmt, one_stmt, block, run_meant, value_meant, return_meant, block_with, block_meant, stmt_meant, meant_stmt, body_meant, fn_meant, decl_meant, decls_meant, adds, checked}
-use Rattle.mm_check_unit.specs.Laws.{FirstIsValid}
+use Rattle.mm_check_unit.specs.First.{Meant, nothing, number, sum, callee, put, value_of, put_value, number_meant, with_number, sum_meant, call_meant, expr_meant, meant, StmtMeant, no_stmt, one_stmt, block, run_meant, return_value, return_meant, block_with, block_meant, stmt_meant, meant_stmt, body_meant, main_with, main_meant, fn_meant, decl_meant, decls_meant}
+use Rattle.mm_check_unit.specs.Laws.{alone, IsSmallProgram, FirstIsValid}
 use Rattle.mm_check_unit.proofs.Trees.{kind_meant}
 
--- ---- small numbers
+-- ---- values
 
-abbrev AllInts : List ℕ → Type 0
-AllInts [] = Unit {0}
-AllInts (n ∷ ns) = (n < 2 ^ 31) × AllInts ns
+-- an `int` wherever it stands, of few temporaries and with no block of its own
+record Fine (e : Expr) : Type 0 where
+  typed : (a : Around) → type_of a e ≡ ty.Int
+  valid : (a : Around) (known : List ℕ) → IsValid a known e
+  few : reach e ≤ 3
+  flat : nesting e ≡ 0
 
-abbrev SumInts : Sum → Type 0
-SumInts a = (a.first < 2 ^ 31) × AllInts a.more
+is_small : (n : ℕ) → n < 2 ^ 31 → IsTrue (is_int (pos n))
+is_small n h = grind arith
 
-abbrev MeantInts : Meant → Type 0
-MeantInts (sum a) = SumInts a
-MeantInts (put a) = SumInts a
-MeantInts _ = Unit {0}
+number_fine : (n : ℕ) → n < 2 ^ 31 → Fine (int (pos n))
+number_fine n h = record { typed = λ a. refl; valid = λ a known. is_small n h; few = omega arith; flat = refl }
 
-abbrev AllMeantInts : List Meant → Type 0
-AllMeantInts [] = Unit {0}
-AllMeantInts (x ∷ xs) = MeantInts x × AllMeantInts xs
+sum_fine : (e : Expr) (n : ℕ) → Fine e → n < 2 ^ 31 → Fine (binary Add e (int (pos n)))
+sum_fine e n g h = record {
+  typed = λ a. g.typed a;
+  valid = λ a known. (inl (subst (λ t. IsTrue (is_number t)) (sym (g.typed a)) refl, g.typed a), g.valid a known, is_small n h);
+  few = let k = g.few in omega arith;
+  flat = ap (λ k. max k 0) g.flat;
+}
 
-abbrev StmtInts : Stmt → Type 0
-StmtInts (Put a) = SumInts a
-StmtInts (Return a) = SumInts a
+abbrev MeantFine : Meant → Type 0
+MeantFine (number n) = n < 2 ^ 31
+MeantFine (sum e) = Fine e
+MeantFine (put e) = Fine e
+MeantFine _ = Unit {0}
 
-abbrev AllStmtInts : List Stmt → Type 0
-AllStmtInts [] = Unit {0}
-AllStmtInts (s ∷ ss) = StmtInts s × AllStmtInts ss
+abbrev ValueFine : Option Expr → Type 0
+ValueFine None = Unit {0}
+ValueFine (Some e) = Fine e
 
-abbrev StmtMeantInts : StmtMeant → Type 0
-StmtMeantInts no_stmt = Unit {0}
-StmtMeantInts (one_stmt s) = StmtInts s
-StmtMeantInts (block ss) = AllStmtInts ss
+abbrev AllMeantFine : List Meant → Type 0
+AllMeantFine [] = Unit {0}
+AllMeantFine (x ∷ xs) = MeantFine x × AllMeantFine xs
 
-abbrev FoundInts : Option (List Stmt) → Type 0
-FoundInts None = Unit {0}
-FoundInts (Some ss) = AllStmtInts ss
+value_fine : (m : Meant) → MeantFine m → ValueFine (value_of m)
+value_fine (number n) h = number_fine n h
+value_fine (sum e) h = h
+value_fine _ h = tt
 
 -- ---- expressions
 
@@ -70,46 +85,44 @@ and_right : (a b : Bool) → (a && b) ≡ true → b ≡ true
 and_right true b e = e
 and_right false b e = absurd (cc)
 
-chosen_ints : (b : Bool) (n : ℕ) → (b ≡ true → n < 2 ^ 31) → MeantInts (if b then sum (record { first = n; more = [] }) else nothing)
-chosen_ints true n h = (h refl, tt)
-chosen_ints false n h = tt
+chosen_fine : (b : Bool) (n : ℕ) → (b ≡ true → n < 2 ^ 31) → MeantFine (if b then number n else nothing)
+chosen_fine true n h = h refl
+chosen_fine false n h = tt
 
-number_ints : (n : Number) → MeantInts (number_meant n)
-number_ints n = chosen_ints (is_int_number n.text n.value) n.value (λ e. ltb-true n.value (2 ^ 31) (and_right (not (is_unsigned n.text)) (nat_lt n.value (2 ^ 31)) e))
+number_right : (n : Number) → MeantFine (number_meant n)
+number_right n = chosen_fine (is_int_number n.text n.value) n.value (λ e. ltb-true n.value (2 ^ 31) (and_right (not (is_unsigned n.text)) (nat_lt n.value (2 ^ 31)) e))
 
-name_ints : (b : Bool) → MeantInts (if b then callee else nothing)
-name_ints true = tt
-name_ints false = tt
+name_fine : (b : Bool) → MeantFine (if b then callee else nothing)
+name_fine true = tt
+name_fine false = tt
 
-ints-append : (ns : List ℕ) (n : ℕ) → AllInts ns → n < 2 ^ 31 → AllInts (ns ++ n ∷ [])
-ints-append [] n h s = (s, tt)
-ints-append (m ∷ ms) n h s = (h.0, ints-append ms n h.1 s)
+with_fine : (o : Option Expr) (n : ℕ) → ValueFine o → n < 2 ^ 31 → MeantFine (with_number o n)
+with_fine None n h s = tt
+with_fine (Some e) n h s = sum_fine e n h s
 
-with_ints : (a : Sum) (n : ℕ) (ms : List ℕ) → SumInts a → n < 2 ^ 31 → MeantInts (with_number a n ms)
-with_ints a n [] h s = (h.0, ints-append a.more n h.1 s)
-with_ints a n (m ∷ ms) h s = tt
+plus_fine : (op : BinaryOperator) (a b : Meant) → MeantFine a → MeantFine b → MeantFine (sum_meant op a b)
+plus_fine operator.Plus a (number n) g h = with_fine (value_of a) n (value_fine a g) h
+plus_fine operator.Plus a _ g h = tt
+plus_fine _ a b g h = tt
 
-sum_ints : (op : BinaryOperator) (a b : Meant) → MeantInts a → MeantInts b → MeantInts (sum_meant op a b)
-sum_ints operator.Plus (sum a) (sum b) g h = with_ints a b.first b.more g h.0
-sum_ints operator.Plus (sum a) _ g h = tt
-sum_ints operator.Plus _ b g h = tt
-sum_ints _ a b g h = tt
+put_fine : (o : Option Expr) → ValueFine o → MeantFine (put_value o)
+put_fine None h = tt
+put_fine (Some e) h = h
 
-call_ints : (x : Meant) (xs : List Meant) → AllMeantInts xs → MeantInts (call_meant x xs)
-call_ints callee [] h = tt
-call_ints callee (sum a ∷ []) h = h.0
-call_ints callee (_ ∷ []) h = tt
-call_ints callee (x ∷ (y ∷ ys)) h = tt
-call_ints _ xs h = tt
+call_fine : (x : Meant) (xs : List Meant) → AllMeantFine xs → MeantFine (call_meant x xs)
+call_fine callee [] h = tt
+call_fine callee (a ∷ []) h = put_fine (value_of a) (value_fine a h.0)
+call_fine callee (x ∷ (y ∷ ys)) h = tt
+call_fine _ xs h = tt
 
-abbrev value_of : ExprKind → Meant
-value_of = fold-ExprKind Meant Meant expr_meant (λ x. x.kind)
+abbrev meant_of : ExprKind → Meant
+meant_of = fold-ExprKind Meant Meant expr_meant (λ x. x.kind)
 
 abbrev KindClaim : ExprKind → Type 0
-KindClaim k = MeantInts (value_of k)
+KindClaim k = MeantFine (meant_of k)
 
 abbrev Claim : ExprTree → Type 0
-Claim x = MeantInts (meant x)
+Claim x = MeantFine (meant x)
 
 -- a tree with its claim
 abbrev KindProved : Type 0
@@ -118,56 +131,81 @@ KindProved = (k : ExprKind) × KindClaim k
 abbrev Proved : Type 0
 Proved = (x : ExprTree) × Claim x
 
-all_ints : (es : List Proved) → AllMeantInts (map meant (map (λ e. e.0) es))
-all_ints [] = tt
-all_ints (e ∷ es) = (e.1, all_ints es)
+all_fine : (es : List Proved) → AllMeantFine (map meant (map (λ e. e.0) es))
+all_fine [] = tt
+all_fine (e ∷ es) = (e.1, all_fine es)
 
 abbrev plain_kind : ExprKind-F KindProved Proved → ExprKind-F ExprKind ExprTree
 plain_kind = map-ExprKind KindProved Proved ExprKind ExprTree (λ e. e.0) (λ e. e.0)
 
 abbrev meant_parts : ExprKind-F ExprKind ExprTree → ExprKind-F Meant Meant
-meant_parts = map-ExprKind ExprKind ExprTree Meant Meant value_of meant
+meant_parts = map-ExprKind ExprKind ExprTree Meant Meant meant_of meant
 
-kind_ints : (y : ExprKind-F KindProved Proved) → MeantInts (expr_meant (meant_parts (plain_kind y)))
-kind_ints (ExprKind-F.Number n) = number_ints n
-kind_ints (ExprKind-F.Name text) = name_ints (bytes_eq text (codes "mm_put"))
-kind_ints (ExprKind-F.Binary a op at b) = sum_ints op (meant a.0) (meant b.0) a.1 b.1
-kind_ints (ExprKind-F.Call x xs) = call_ints (meant x.0) (map meant (map (λ e. e.0) xs)) (all_ints xs)
-kind_ints _ = tt
+kind_fine : (y : ExprKind-F KindProved Proved) → MeantFine (expr_meant (meant_parts (plain_kind y)))
+kind_fine (ExprKind-F.Number n) = number_right n
+kind_fine (ExprKind-F.Name text) = name_fine (bytes_eq text (codes "mm_put"))
+kind_fine (ExprKind-F.Binary a op at b) = plus_fine op (meant a.0) (meant b.0) a.1 b.1
+kind_fine (ExprKind-F.Call x xs) = call_fine (meant x.0) (map meant (map (λ e. e.0) xs)) (all_fine xs)
+kind_fine _ = tt
 
 kind_step : (x : ExprKind-F ExprKind ExprTree) (y : ExprKind-F KindProved Proved) → plain_kind y ≡ x → KindClaim (roll-ExprKind x)
-kind_step x y is = subst MeantInts (sym (fold-roll-ExprKind Meant Meant expr_meant (λ x. x.kind) x)) (subst (λ z. MeantInts (expr_meant (meant_parts z))) is (kind_ints y))
+kind_step x y is = subst MeantFine (sym (fold-roll-ExprKind Meant Meant expr_meant (λ x. x.kind) x)) (subst (λ z. MeantFine (expr_meant (meant_parts z))) is (kind_fine y))
 
 expr_step : (x : Expr-F ExprKind ExprTree) (y : Expr-F KindProved Proved) → map-Expr KindProved Proved ExprKind ExprTree (λ e. e.0) (λ e. e.0) y ≡ x → Claim (roll-Expr x)
-expr_step x y is = subst MeantInts (sym (fold-roll-Expr Meant Meant expr_meant (λ x. x.kind) x)) (subst (λ z. MeantInts (value_of z.kind)) is y.kind.1)
+expr_step x y is = subst MeantFine (sym (fold-roll-Expr Meant Meant expr_meant (λ x. x.kind) x)) (subst (λ z. MeantFine (meant_of z.kind)) is y.kind.1)
 
-expr_ints : (x : ExprTree) → MeantInts (meant x)
-expr_ints = ind-Expr KindClaim Claim kind_step expr_step
+expr_fine : (x : ExprTree) → MeantFine (meant x)
+expr_fine = ind-Expr KindClaim Claim kind_step expr_step
 
 -- ---- statements
 
-run_ints : (m : Meant) → MeantInts m → StmtMeantInts (run_meant m)
-run_ints (put a) h = h
-run_ints _ h = tt
+-- valid where an `int` is returned, of few temporaries and with no block of its own
+record StmtFine (s : Stmt) : Type 0 where
+  valid : (a : Around) (known : List ℕ) → IsValidStmt a ty.Int false known s
+  few : reach_stmt s ≤ 3
+  flat : nesting_stmt s ≡ 0
 
-value_ints : (m : Meant) → MeantInts m → StmtMeantInts (value_meant m)
-value_ints (sum a) h = h
-value_ints _ h = tt
+run_put : (e : Expr) → Fine e → StmtFine (run (builtin builtins.Put (expr_and e no_exprs)))
+run_put e g = record {
+  valid = λ a known. (((λ e. cc, inl (g.typed a)), tt), (g.valid a known, tt));
+  few = let k = g.few in omega arith;
+  flat = ap (λ k. max k 0) g.flat;
+}
 
-return_ints : (x : Option ExprTree) → StmtMeantInts (return_meant x)
-return_ints None = tt
-return_ints (Some x) = value_ints (meant x) (expr_ints x)
+return_fine : (e : Expr) → Fine e → StmtFine (return e)
+return_fine e g = record { valid = λ a known. ((λ e. cc, inl (g.typed a)), g.valid a known); few = g.few; flat = g.flat }
 
-with_stmt_ints : (x b : StmtMeant) → StmtMeantInts x → StmtMeantInts b → StmtMeantInts (block_with x b)
-with_stmt_ints (one_stmt s) (block ss) g h = (g, h)
-with_stmt_ints (one_stmt s) _ g h = tt
-with_stmt_ints _ b g h = tt
+abbrev AllFine : List Stmt → Type 0
+AllFine [] = Unit {0}
+AllFine (s ∷ ss) = StmtFine s × AllFine ss
+
+abbrev StmtMeantFine : StmtMeant → Type 0
+StmtMeantFine no_stmt = Unit {0}
+StmtMeantFine (one_stmt s) = StmtFine s
+StmtMeantFine (block ss) = AllFine ss
+
+run_fine : (m : Meant) → MeantFine m → StmtMeantFine (run_meant m)
+run_fine (put e) h = run_put e h
+run_fine _ h = tt
+
+returned_fine : (o : Option Expr) → ValueFine o → StmtMeantFine (return_value o)
+returned_fine None h = tt
+returned_fine (Some e) h = return_fine e h
+
+return_right : (x : Option ExprTree) → StmtMeantFine (return_meant x)
+return_right None = tt
+return_right (Some x) = returned_fine (value_of (meant x)) (value_fine (meant x) (expr_fine x))
+
+with_stmt_fine : (x b : StmtMeant) → StmtMeantFine x → StmtMeantFine b → StmtMeantFine (block_with x b)
+with_stmt_fine (one_stmt s) (block ss) g h = (g, h)
+with_stmt_fine (one_stmt s) _ g h = tt
+with_stmt_fine _ b g h = tt
 
 abbrev StmtKindClaim : StmtKind → Type 0
-StmtKindClaim k = StmtMeantInts (kind_meant k)
+StmtKindClaim k = StmtMeantFine (kind_meant k)
 
 abbrev StmtClaim : StmtTree → Type 0
-StmtClaim x = StmtMeantInts (meant_stmt x)
+StmtClaim x = StmtMeantFine (meant_stmt x)
 
 abbrev StmtKindProved : Type 0
 StmtKindProved = (k : StmtKind) × StmtKindClaim k
@@ -175,9 +213,9 @@ StmtKindProved = (k : StmtKind) × StmtKindClaim k
 abbrev StmtProved : Type 0
 StmtProved = (x : StmtTree) × StmtClaim x
 
-block_ints : (es : List StmtProved) → StmtMeantInts (block_meant (map meant_stmt (map (λ e. e.0) es)))
-block_ints [] = tt
-block_ints (e ∷ es) = with_stmt_ints (meant_stmt e.0) (block_meant (map meant_stmt (map (λ e. e.0) es))) e.1 (block_ints es)
+block_fine : (es : List StmtProved) → StmtMeantFine (block_meant (map meant_stmt (map (λ e. e.0) es)))
+block_fine [] = tt
+block_fine (e ∷ es) = with_stmt_fine (meant_stmt e.0) (block_meant (map meant_stmt (map (λ e. e.0) es))) e.1 (block_fine es)
 
 abbrev plain_stmt : StmtKind-F StmtKindProved StmtProved → StmtKind-F StmtKind StmtTree
 plain_stmt = map-StmtKind StmtKindProved StmtProved StmtKind StmtTree (λ e. e.0) (λ e. e.0)
@@ -185,62 +223,130 @@ plain_stmt = map-StmtKind StmtKindProved StmtProved StmtKind StmtTree (λ e. e.0
 abbrev stmt_parts : StmtKind-F StmtKind StmtTree → StmtKind-F StmtMeant StmtMeant
 stmt_parts = map-StmtKind StmtKind StmtTree StmtMeant StmtMeant kind_meant meant_stmt
 
-stmt_kind_ints : (y : StmtKind-F StmtKindProved StmtProved) → StmtMeantInts (stmt_meant (stmt_parts (plain_stmt y)))
-stmt_kind_ints (StmtKind-F.Block xs) = block_ints xs
-stmt_kind_ints (StmtKind-F.Expr x) = run_ints (meant x) (expr_ints x)
-stmt_kind_ints (StmtKind-F.Return x) = return_ints x
-stmt_kind_ints _ = tt
+stmt_kind_fine : (y : StmtKind-F StmtKindProved StmtProved) → StmtMeantFine (stmt_meant (stmt_parts (plain_stmt y)))
+stmt_kind_fine (StmtKind-F.Block xs) = block_fine xs
+stmt_kind_fine (StmtKind-F.Expr x) = run_fine (meant x) (expr_fine x)
+stmt_kind_fine (StmtKind-F.Return x) = return_right x
+stmt_kind_fine _ = tt
 
 stmt_kind_step : (x : StmtKind-F StmtKind StmtTree) (y : StmtKind-F StmtKindProved StmtProved) → plain_stmt y ≡ x → StmtKindClaim (roll-StmtKind x)
-stmt_kind_step x y is = subst StmtMeantInts (sym (fold-roll-StmtKind StmtMeant StmtMeant stmt_meant (λ x. x.kind) x)) (subst (λ z. StmtMeantInts (stmt_meant (stmt_parts z))) is (stmt_kind_ints y))
+stmt_kind_step x y is = subst StmtMeantFine (sym (fold-roll-StmtKind StmtMeant StmtMeant stmt_meant (λ x. x.kind) x)) (subst (λ z. StmtMeantFine (stmt_meant (stmt_parts z))) is (stmt_kind_fine y))
 
 stmt_step : (x : Stmt-F StmtKind StmtTree) (y : Stmt-F StmtKindProved StmtProved) → map-Stmt StmtKindProved StmtProved StmtKind StmtTree (λ e. e.0) (λ e. e.0) y ≡ x → StmtClaim (roll-Stmt x)
-stmt_step x y is = subst StmtMeantInts (sym (fold-roll-Stmt StmtMeant StmtMeant stmt_meant (λ x. x.kind) x)) (subst (λ z. StmtMeantInts (kind_meant z.kind)) is y.kind.1)
+stmt_step x y is = subst StmtMeantFine (sym (fold-roll-Stmt StmtMeant StmtMeant stmt_meant (λ x. x.kind) x)) (subst (λ z. StmtMeantFine (kind_meant z.kind)) is y.kind.1)
 
-stmt_ints : (x : StmtTree) → StmtMeantInts (meant_stmt x)
-stmt_ints = ind-Stmt StmtKindClaim StmtClaim stmt_kind_step stmt_step
+stmt_fine : (x : StmtTree) → StmtMeantFine (meant_stmt x)
+stmt_fine = ind-Stmt StmtKindClaim StmtClaim stmt_kind_step stmt_step
 
--- ---- units
+-- ---- programs
 
-body_ints : (m : StmtMeant) → StmtMeantInts m → FoundInts (body_meant m)
-body_ints (block ss) h = h
-body_ints _ h = tt
+abbrev FoundFine : Option Function → Type 0
+FoundFine None = Unit {0}
+FoundFine (Some f) = IsSmallProgram (alone f)
 
-main_ints : (main : Bool) (m : StmtMeant) → StmtMeantInts m → FoundInts (if main then body_meant m else None)
-main_ints true m h = body_ints m h
-main_ints false m h = tt
+valid_stmts : (ss : List Stmt) (a : Around) (known : List ℕ) → AllFine ss → AreValidStmts a ty.Int false known (stmts_of ss)
+valid_stmts [] a known h = tt
+valid_stmts (s ∷ ss) a known h = (h.0.valid a known, valid_stmts ss a _ h.1)
 
-fn_ints : (x : FnDeclKind) → FoundInts (fn_meant x)
-fn_ints (f.Definition head body) = main_ints (is_main head) (meant_stmt body) (stmt_ints body)
-fn_ints _ = tt
+few_stmts : (ss : List Stmt) → AllFine ss → reach_stmts (stmts_of ss) ≤ 3
+few_stmts [] h = omega arith
+few_stmts (s ∷ ss) h = let j = h.0.few in let k = few_stmts ss h.1 in omega arith
 
-decl_ints : (x : DeclKind) → FoundInts (decl_meant x)
-decl_ints (d.Function x) = fn_ints x.kind
-decl_ints (d.Class x) = tt
+flat_stmts : (ss : List Stmt) → AllFine ss → nesting_stmts (stmts_of ss) ≡ 0
+flat_stmts [] h = refl
+flat_stmts (s ∷ ss) h = ap₂ max h.0.flat (flat_stmts ss h.1)
 
-decls_ints : (xs : List Decl) → FoundInts (decls_meant xs)
-decls_ints [] = tt
-decls_ints (x ∷ []) = decl_ints x.kind
-decls_ints (x ∷ (y ∷ xs)) = tt
+no_classes : IsClassList []
+no_classes = record {
+  rank = λ c. 0;
+  low = λ c. omega arith;
+  falls = λ c b h. elim h [ ];
+  known = λ c b h. elim h [ ];
+  once = λ c. tt;
+  bare = λ c e. (refl, refl);
+  members = λ c. record { few = omega arith; apart = λ i j d l h. absurd (let z : ⊥ = omega arith in z) };
+  typed = λ c m t h k. elim h [ ];
+  named = tt;
+}
 
--- ---- what is checked
+only_one : (g f : Function) (P : Function → Type 0) → P g → Has (g ∷ []) f → P f
+only_one g f P h (first e) = subst P e h
+only_one g f P h (later k) = elim k [ ]
 
-is_small : (n : ℕ) → n < 2 ^ 31 → IsTrue (is_int (pos n))
-is_small n h = grind arith
+module _ (place : Place) (ss : List Stmt) (fine : AllFine ss) where
+  abbrev main : Function
+  main = main_with place ss
 
--- a sum of numbers is an `int` that is valid
-adds_type : (ns : List ℕ) (e : Expr) → type_of e ≡ int_type → type_of (adds e ns) ≡ int_type
-adds_type [] e h = h
-adds_type (n ∷ ns) e h = adds_type ns (binary Add e (int (pos n))) refl
+  abbrev program : Program
+  program = alone main
 
-adds_valid : (ns : List ℕ) (e : Expr) → AllInts ns → type_of e ≡ int_type → IsValid e → IsValid (adds e ns)
-adds_valid [] e h t v = v
-adds_valid (n ∷ ns) e h t v = adds_valid ns (binary Add e (int (pos n))) h.1 refl (t, refl, v, is_small n h.0)
+  main_valid : IsValidFunction (λ f. f.defined) program main
+  main_valid = record {
+    result = tt;
+    params = λ q h. elim h [ ];
+    few = omega arith;
+    few_virtual = omega arith;
+    locals = λ t h. elim h [ ];
+    owner = λ e. cc;
+    inside = λ e. cc;
+    body = valid_stmts ss (around (λ f. f.defined) program main) (numbers_below (around (λ f. f.defined) program main).arguments) fine;
+  }
 
-stmts_valid : (ss : List Stmt) → AllStmtInts ss → AreValidStmts (checked ss)
-stmts_valid [] h = tt
-stmts_valid (Put a ∷ ss) h = ((ap (λ t. t ∷ []) (adds_type a.more (int (pos a.first)) refl), (adds_valid a.more (int (pos a.first)) h.0.1 refl (is_small a.first h.0.0), tt)), stmts_valid ss h.1)
-stmts_valid (Return a ∷ ss) h = ((adds_type a.more (int (pos a.first)) refl, adds_valid a.more (int (pos a.first)) h.0.1 refl (is_small a.first h.0.0)), stmts_valid ss h.1)
+  valid : IsValidProgram (λ f. f.defined) program
+  valid = record {
+    listed = no_classes;
+    classes = λ c h. absurd (let l = h.0 in let z : ⊥ = omega arith in z);
+    functions = λ f h. only_one main f (IsValidFunction (λ f. f.defined) program) main_valid h;
+    apart = λ i j d l h. absurd (let z : ⊥ = omega arith in z);
+  }
+
+  merged : IsMerged program
+  merged = record {
+    valid = valid;
+    opens = λ f h e. only_one main f (λ g. IsTrue g.defined) refl h;
+    virtuals = λ c n m f k h. elim h [ ];
+    main = omega arith;
+  }
+
+  body_is : (b : Stmt) → main.body ≡ Some b → core.block (stmts_of ss) ≡ b
+  body_is b e = cc
+
+  shallow : IsShallow program
+  shallow zero f b e h =
+      let same : main ≡ f = cc in
+      let flat = flat_stmts ss fine in
+      subst (λ b. nesting_stmt b ≤ 4092) (body_is b (subst (λ (g : Function). g.body ≡ Some b) (sym same) h)) (omega arith)
+  shallow (suc i) f b e h = cc
+
+  few_of : (i : ℕ) (f : Function) (b : Stmt) → slice_get program.functions i ≡ Some f → f.body ≡ Some b → reach_stmt b ≤ 3
+  few_of zero f b e h =
+      let same : main ≡ f = cc in
+      subst (λ b. reach_stmt b ≤ 3) (body_is b (subst (λ (g : Function). g.body ≡ Some b) (sym same) h)) (few_stmts ss fine)
+  few_of (suc i) f b e h = cc
+
+  small : IsSmallProgram program
+  small = record { scalar = record { merged = merged; classes = refl }; shallow = shallow; few = few_of }
+
+found_fine : (place : Place) (m : StmtMeant) → StmtMeantFine m → FoundFine (main_meant place (body_meant m))
+found_fine place (block ss) h = small place ss h
+found_fine place _ h = tt
+
+main_fine : (place : Place) (main : Bool) (m : StmtMeant) → StmtMeantFine m → FoundFine (if main then main_meant place (body_meant m) else None)
+main_fine place true m h = found_fine place m h
+main_fine place false m h = tt
+
+fn_fine : (x : FnDeclKind) → FoundFine (fn_meant x)
+fn_fine (f.Definition head body) = main_fine head.name.place (is_main head) (meant_stmt body) (stmt_fine body)
+fn_fine _ = tt
+
+decl_fine : (x : DeclKind) → FoundFine (decl_meant x)
+decl_fine (d.Function x) = fn_fine x.kind
+decl_fine (d.Class x) = tt
+
+decls_fine : (xs : List Decl) → FoundFine (decls_meant xs)
+decls_fine [] = tt
+decls_fine (x ∷ []) = decl_fine x.kind
+decls_fine (x ∷ (y ∷ xs)) = tt
 
 pub first_is_valid : FirstIsValid
-first_is_valid u ss e = stmts_valid ss (subst FoundInts e (decls_ints u.decls))
+first_is_valid u f e = subst FoundFine e (decls_fine u.decls)

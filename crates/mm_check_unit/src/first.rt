@@ -1,78 +1,62 @@
 // The first texts.
 
-ghost use Rattle.std.specs.Prelude.{◌≡◌, [], Some, None, IfOk, MatchOption, map};
-ghost use Rattle.mm_check_unit.specs.First.{number_meant, with_number, meant, call_meant, run_meant, value_meant, return_meant, block_meant, meant_stmt, body_meant, fn_meant, decl_meant, statements_of};
-ghost use Rattle.mm_check_unit.specs.Parts.{sum_of, number_of, is_callee, stmt_of};
+ghost use Rattle.std.specs.Prelude.{◌≡◌, Some, None, IfOk, map};
+ghost use Rattle.mm_base.specs.declared.world.Builtin.TheVariants as builtins;
+ghost use Rattle.mm_core.specs.declared.part.Operator.TheVariants.{Add};
+ghost use Rattle.mm_core.specs.Tree.{int, binary, builtin, expr_and, no_exprs, run};
+ghost use Rattle.mm_core.specs.View.{expr_view, stmt_view, function_view};
+ghost use Rattle.mm_check_unit.specs.First.{meant, value_of, call_meant, run_meant, return_meant, block_meant, meant_stmt, body_meant, main_with, fn_meant, decl_meant, main_of};
+ghost use Rattle.mm_check_unit.specs.Parts.{Finds, number_of, is_callee, stmt_of};
 
+use mm_base::place::Place;
+use mm_base::text::Text;
+use mm_base::world::Builtin;
+use mm_classes::class::Ty;
+use mm_core::part::Operator;
+use mm_core::tree::{CoreExpr, CoreFn, CoreStmt};
 use mm_syntax::decl::{Decl, DeclKind, FnDecl, FnDeclKind, Unit};
 use mm_syntax::expr::{Expr, ExprKind};
-use mm_syntax::name::{BinaryOperator, Number};
+use mm_syntax::name::BinaryOperator;
 use mm_syntax::stmt::{Stmt as StmtTree, StmtKind};
 use mm_syntax::walk::is_main_head;
-use sqlite_items::Items;
+use sqlite_items::{Boxed, Items};
 use std::alloc::{AllocError, Global};
 
-/// A sum: its first number, and those that are added to it.
-#[derive(Drop)]
-pub struct Sum {
-    pub first: u32,
-    pub more: Items<u32>,
-}
-
-/// A statement of `main`.
-#[derive(Drop)]
-pub enum Stmt {
-    Put(Sum),
-    Return(Sum),
-}
-
-/// A sum of one number.
-fn one_number(alloc: Global, number: &Number) -> Option<Sum>
-    ensures { result ≡ sum_of (number_meant number.now) }
-{
-    if number.is_int() {
-        Some(Sum {
-            first: number.value,
-            more: Items::new(alloc),
-        })
-    } else {
-        None
-    }
-}
-
-/// With one number more.
-fn longer(sum: Sum, last: u32) -> Result<Sum, AllocError>
-    ensures { IfOk result (λ found. Some found ≡ sum_of (with_number sum last [])) }
-{
-    let Sum { first, mut more } = sum;
-    more.push(last)?;
-    Ok(Sum { first, more })
-}
-
 /// The number that an expression is.
-fn as_number(tree: &Expr) -> Option<u32>
+fn as_number(tree: &Expr) -> Option<i32>
     ensures { result ≡ number_of (meant tree.now) }
 {
     match &tree.kind {
-        ExprKind::Number(number) if number.is_int() => Some(number.value),
+        ExprKind::Number(number) if number.is_int() => Some(number.value as i32),
         _ => None,
     }
 }
 
-/// The sum that an expression is.
-fn as_sum(alloc: Global, tree: &Expr) -> Result<Option<Sum>, AllocError>
-    ensures { IfOk result (λ found. found ≡ sum_of (meant tree.now)) }
+/// With one number more.
+fn longer(alloc: Global, sum: CoreExpr, last: i32) -> Result<CoreExpr, AllocError>
+    ensures { IfOk result (λ found. expr_view found ≡ binary Add (expr_view sum) (int last)) }
+{
+    let left = Boxed::new(alloc, sum)?;
+    let right = Boxed::new(alloc, CoreExpr::Int(last))?;
+    Ok(CoreExpr::Binary(Operator::Add, left, right))
+}
+
+/// The value that an expression is: a number, or a sum of numbers.
+fn as_value(alloc: Global, tree: &Expr) -> Result<Option<CoreExpr>, AllocError>
+    ensures { IfOk result (λ found. Finds expr_view found (value_of (meant tree.now))) }
 {
     match &tree.kind {
-        ExprKind::Number(number) => Ok(one_number(alloc, number)),
+        ExprKind::Number(number) if number.is_int() => {
+            Ok(Some(CoreExpr::Int(number.value as i32)))
+        }
         ExprKind::Binary(left, BinaryOperator::Plus, _, right) => {
             let Some(last) = as_number(right.get()) else {
                 return Ok(None);
             };
-            let Some(left) = as_sum(alloc, left.get())? else {
+            let Some(sum) = as_value(alloc, left.get())? else {
                 return Ok(None);
             };
-            let all = longer(left, last)?;
+            let all = longer(alloc, sum, last)?;
             Ok(Some(all))
         }
         _ => Ok(None),
@@ -89,22 +73,36 @@ fn is_put(tree: &Expr) -> bool
     }
 }
 
+/// A call of `mm_put` with this value, as a statement.
+fn put(alloc: Global, value: CoreExpr) -> Result<CoreStmt, AllocError>
+    ensures { IfOk result (λ found. stmt_view found ≡
+        run (builtin builtins.Put (expr_and (expr_view value) no_exprs))) }
+{
+    let mut arguments = Items::new(alloc);
+    arguments.push(value)?;
+    Ok(CoreStmt::Do(CoreExpr::Builtin(Builtin::Put, arguments)))
+}
+
 /// A call as a statement.
-fn called(alloc: Global, callee: &Expr, args: &[Expr]) -> Result<Option<Stmt>, AllocError>
-    ensures { IfOk result (λ found. found ≡ stmt_of (run_meant (call_meant (meant callee.now) (map meant args.now)))) }
+fn called(alloc: Global, callee: &Expr, args: &[Expr]) -> Result<Option<CoreStmt>, AllocError>
+    ensures { IfOk result (λ found. Finds stmt_view found
+        (stmt_of (run_meant (call_meant (meant callee.now) (map meant args.now))))) }
 {
     if args.len() != 1 || !is_put(callee) {
         return Ok(None);
     }
-    match as_sum(alloc, &args[0])? {
-        Some(all) => Ok(Some(Stmt::Put(all))),
+    match as_value(alloc, &args[0])? {
+        Some(value) => {
+            let all = put(alloc, value)?;
+            Ok(Some(all))
+        }
         None => Ok(None),
     }
 }
 
 /// An expression as a statement.
-fn run(alloc: Global, tree: &Expr) -> Result<Option<Stmt>, AllocError>
-    ensures { IfOk result (λ found. found ≡ stmt_of (run_meant (meant tree.now))) }
+fn run_statement(alloc: Global, tree: &Expr) -> Result<Option<CoreStmt>, AllocError>
+    ensures { IfOk result (λ found. Finds stmt_view found (stmt_of (run_meant (meant tree.now)))) }
 {
     match &tree.kind {
         ExprKind::Call(callee, args) => called(alloc, callee.get(), args.as_slice()),
@@ -113,34 +111,35 @@ fn run(alloc: Global, tree: &Expr) -> Result<Option<Stmt>, AllocError>
 }
 
 /// A `return` of this.
-fn returned(alloc: Global, tree: &Option<Expr>) -> Result<Option<Stmt>, AllocError>
-    ensures { IfOk result (λ found. found ≡ stmt_of (return_meant tree.now)) }
+fn returned(alloc: Global, tree: &Option<Expr>) -> Result<Option<CoreStmt>, AllocError>
+    ensures { IfOk result (λ found. Finds stmt_view found (stmt_of (return_meant tree.now))) }
 {
     let Some(tree) = tree else {
         return Ok(None);
     };
-    match as_sum(alloc, tree)? {
-        Some(all) => Ok(Some(Stmt::Return(all))),
+    match as_value(alloc, tree)? {
+        Some(value) => Ok(Some(CoreStmt::Return(Some(value)))),
         None => Ok(None),
     }
 }
 
 /// The statement that a tree is.
-fn as_statement(alloc: Global, tree: &StmtTree) -> Result<Option<Stmt>, AllocError>
-    ensures { IfOk result (λ found. found ≡ stmt_of (meant_stmt tree.now)) }
+fn as_statement(alloc: Global, tree: &StmtTree) -> Result<Option<CoreStmt>, AllocError>
+    ensures { IfOk result (λ found. Finds stmt_view found (stmt_of (meant_stmt tree.now))) }
 {
     match &tree.kind {
-        StmtKind::Expr(tree) => run(alloc, tree),
+        StmtKind::Expr(tree) => run_statement(alloc, tree),
         StmtKind::Return(tree) => returned(alloc, tree),
         _ => Ok(None),
     }
 }
 
 /// The statements that these trees are.
-fn block(alloc: Global, list: &[StmtTree]) -> Result<Option<Vec<Stmt>>, AllocError>
-    ensures { IfOk result (λ found. MatchOption found (body_meant (block_meant (map meant_stmt list.now)) ≡ None) (λ v. body_meant (block_meant (map meant_stmt list.now)) ≡ Some v.items)) }
+fn block(alloc: Global, list: &[StmtTree]) -> Result<Option<Items<CoreStmt>>, AllocError>
+    ensures { IfOk result (λ found. Finds (map stmt_view) found
+        (body_meant (block_meant (map meant_stmt list.now)))) }
 {
-    let mut all = Vec::new(alloc);
+    let mut all = Items::new(alloc);
     for tree in list {
         match as_statement(alloc, tree)? {
             Some(one) => all.push(one)?,
@@ -151,8 +150,9 @@ fn block(alloc: Global, list: &[StmtTree]) -> Result<Option<Vec<Stmt>>, AllocErr
 }
 
 /// The statements of a body.
-fn body(alloc: Global, tree: &StmtTree) -> Result<Option<Vec<Stmt>>, AllocError>
-    ensures { IfOk result (λ found. MatchOption found (body_meant (meant_stmt tree.now) ≡ None) (λ v. body_meant (meant_stmt tree.now) ≡ Some v.items)) }
+fn body(alloc: Global, tree: &StmtTree) -> Result<Option<Items<CoreStmt>>, AllocError>
+    ensures { IfOk result (λ found. Finds (map stmt_view) found
+        (body_meant (meant_stmt tree.now))) }
 {
     match &tree.kind {
         StmtKind::Block(list) => block(alloc, list.as_slice()),
@@ -160,17 +160,40 @@ fn body(alloc: Global, tree: &StmtTree) -> Result<Option<Vec<Stmt>>, AllocError>
     }
 }
 
-fn function(alloc: Global, tree: &FnDecl) -> Result<Option<Vec<Stmt>>, AllocError>
-    ensures { IfOk result (λ found. MatchOption found (fn_meant tree.now.kind ≡ None) (λ v. fn_meant tree.now.kind ≡ Some v.items)) }
+/// `int main()` of these statements, with the place of its name.
+fn main_of_body(alloc: Global, place: Place, body: Items<CoreStmt>) -> Result<CoreFn, AllocError>
+    ensures { IfOk result (λ f. function_view f ≡ main_with place (map stmt_view body)) }
+{
+    Ok(CoreFn {
+        name: Text::from_str(alloc, "main")?,
+        defined: true,
+        in_class: false,
+        member: false,
+        place,
+        result: Ty::Int,
+        params: Items::new(alloc),
+        locals: Items::new(alloc),
+        body: Some(CoreStmt::Block(body)),
+    })
+}
+
+fn function(alloc: Global, tree: &FnDecl) -> Result<Option<CoreFn>, AllocError>
+    ensures { IfOk result (λ found. Finds function_view found (fn_meant tree.now.kind)) }
 {
     match &tree.kind {
-        FnDeclKind::Definition(head, tree) if is_main_head(head) => body(alloc, tree),
+        FnDeclKind::Definition(head, tree) if is_main_head(head) => {
+            let Some(list) = body(alloc, tree)? else {
+                return Ok(None);
+            };
+            let found = main_of_body(alloc, head.name.place, list)?;
+            Ok(Some(found))
+        }
         _ => Ok(None),
     }
 }
 
-fn declaration(alloc: Global, tree: &Decl) -> Result<Option<Vec<Stmt>>, AllocError>
-    ensures { IfOk result (λ found. MatchOption found (decl_meant tree.now.kind ≡ None) (λ v. decl_meant tree.now.kind ≡ Some v.items)) }
+fn declaration(alloc: Global, tree: &Decl) -> Result<Option<CoreFn>, AllocError>
+    ensures { IfOk result (λ found. Finds function_view found (decl_meant tree.now.kind)) }
 {
     match &tree.kind {
         DeclKind::Function(tree) => function(alloc, tree),
@@ -178,9 +201,9 @@ fn declaration(alloc: Global, tree: &Decl) -> Result<Option<Vec<Stmt>>, AllocErr
     }
 }
 
-/// The statements of `main`, where the unit is a first text.
-pub fn statements(alloc: Global, unit: &Unit) -> Result<Option<Vec<Stmt>>, AllocError>
-    ensures { IfOk result (λ found. MatchOption found (statements_of unit.now ≡ None) (λ v. statements_of unit.now ≡ Some v.items)) }
+/// The checked `main`, where the unit is a first text.
+pub fn main_function(alloc: Global, unit: &Unit) -> Result<Option<CoreFn>, AllocError>
+    ensures { IfOk result (λ found. Finds function_view found (main_of unit.now)) }
 {
     let list = unit.decls.as_slice();
     if list.len() != 1 {

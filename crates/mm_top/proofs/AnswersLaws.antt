@@ -4,7 +4,7 @@ use Rattle.std.specs.Prelude.{codes}
 use Rattle.std.proofs.lemmas.List.{take_all}
 use Rattle.mm_base.specs.Outside.{Contents, FilesSeen, SinkSeen, grown}
 use Rattle.mm_base.proofs.Grown.{grown_nil}
-use Rattle.mm_check_unit.specs.declared.first.Stmt.{Stmt}
+use Rattle.mm_core.specs.Tree.{Function}
 use Rattle.mm_top.specs.declared.link.Ending.{Ending}
 use Rattle.mm_top.specs.declared.link.Ending.TheVariants as ending
 use Rattle.mm_top.specs.Headline.{Change, FilesFailed, SinkFailed, IsSame, Grew, GrewFront, IsSound, Fault, IsFaulty, IsAbsent, IsLong, Due, Linked, fault_message, message_of, status_of, usage_message, IsMessage, for_no_command, for_file, Says, Reports, Answers}
@@ -115,7 +115,7 @@ module _ (status : ℕ) (asked : Option (List ℕ)) (files : Change FilesSeen) (
     long = λ h. absurd (omega (arith, s, h));
     no_memory = λ _. (o, e);
     only = inr (inr (inr (inr (inr (inr s)))));
-    complete = λ h name ss a b c d e. inr s;
+    complete = λ h name main a b c d e. inr s;
     refused = λ h name f a b c d. inr s;
     past_limit = λ h name file a b c d. inr s;
     missing = λ h name file a b c d. inr s;
@@ -135,7 +135,7 @@ module _ (status : ℕ) (asked : Option (List ℕ)) (files : Change FilesSeen) (
     long = λ h. absurd (omega (arith, s, h));
     no_memory = λ h. absurd (omega (arith, s, h));
     only = inr (inr (inl s));
-    complete = λ h name ss e f x y z. absurd (none_asked name a f);
+    complete = λ h name main e f x y z. absurd (none_asked name a f);
     refused = λ h name g e f x y. absurd (none_asked name a f);
     past_limit = λ h name file e f x y. absurd (none_asked name a f);
     missing = λ h name file e f x y. absurd (none_asked name a f);
@@ -150,8 +150,8 @@ module _ (status : ℕ) (asked : Option (List ℕ)) (files : Change FilesSeen) (
     linked : (other : List ℕ) → asked ≡ Some other → Linked e other files out
     linked other f = subst (λ n. Linked e n files out) (same_name asked name other a f) l
 
-    is_complete : (h : Contents) (other : List ℕ) (ss : List Stmt) → files.old.held ≡ Some h → asked ≡ Some other → IsSound (Some h) other ss → (FilesFailed files → ⊥) → (SinkFailed out → ⊥) → (status ≡ 0) ⊎ (status ≡ 9)
-    is_complete h other ss held f x no_read no_write = exactly e other files out h status held (linked other f) s is_sound (sound_tells h other ss x) no_read (λ z. no_write)
+    is_complete : (h : Contents) (other : List ℕ) (main : Function) → files.old.held ≡ Some h → asked ≡ Some other → IsSound (Some h) other main → (FilesFailed files → ⊥) → (SinkFailed out → ⊥) → (status ≡ 0) ⊎ (status ≡ 9)
+    is_complete h other main held f x no_read no_write = exactly e other files out h status held (linked other f) s is_sound (sound_tells h other main x) no_read (λ z. no_write)
 
     is_refused : (h : Contents) (other : List ℕ) (g : Fault) → files.old.held ≡ Some h → asked ≡ Some other → IsFaulty (Some h) other g → (FilesFailed files → ⊥) → ((status ≡ 1) × Says (fault_message g.code g.place g.file) err) ⊎ (status ≡ 9)
     is_refused h other g held f x no_read = exact_fault e other files out err h status g held (linked other f) s says x no_read

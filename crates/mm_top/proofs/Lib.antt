@@ -1,7 +1,5 @@
 pub mod Asked
-pub mod Codes
 pub mod Mains
-pub mod FewLocals
 pub mod LinkLaws
 pub mod Told
 pub mod AnswersLaws

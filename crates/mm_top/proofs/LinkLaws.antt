@@ -6,12 +6,8 @@ use Rattle.mm_base.specs.declared.code.Code.{Code}
 use Rattle.mm_base.specs.declared.code.TheConstants.Code.{N0, P5}
 use Rattle.mm_base.specs.declared.place.Place.{Place}
 use Rattle.mm_c.specs.Tree as c
-use Rattle.mm_c.specs.WellFormed.{IsWellFormed}
 use Rattle.mm_c.specs.Spelling.{SpellsProgram}
-use Rattle.mm_core.specs.Valid.{AreValidStmts}
-use Rattle.mm_lower.specs.Lowered.{lowered_program, reach_stmts}
-use Rattle.mm_lower.proofs.Fits.{well_formed}
-use Rattle.mm_lower.proofs.Programs.{translates}
+use Rattle.mm_core.specs.Tree.{Function}
 use Rattle.mm_token.specs.declared.token.Tokens.{Tokens}
 use Rattle.mm_token.specs.declared.token.TokenEnd.TheVariants.{Absent, Failed, TooLong, Fault}
 use Rattle.mm_token.specs.Tokens.{unit_start, Reads, IsRefused}
@@ -19,9 +15,8 @@ use Rattle.mm_token.specs.Causes.{HasCause}
 use Rattle.mm_syntax.specs.declared.decl.Unit.{Unit as UnitTree}
 use Rattle.mm_syntax.specs.Forms.{all_forms, first_of, shown_unit}
 use Rattle.mm_parse_unit.specs.Units.{IsSyntaxFault}
-use Rattle.mm_check_unit.specs.declared.first.Stmt.{Stmt}
-use Rattle.mm_check_unit.specs.First.{checked, statements_of}
-use Rattle.mm_check_unit.specs.Laws.{IsBuilt}
+use Rattle.mm_check_unit.specs.First.{main_of}
+use Rattle.mm_check_unit.specs.Laws.{IsBuilt, alone, IsSmallProgram}
 use Rattle.mm_top.specs.declared.link.Ending.{Ending}
 use Rattle.mm_top.specs.declared.link.Ending.TheVariants as ending
 use Rattle.mm_top.specs.Headline.{Change, FilesFailed, DrewTooMuch, IsFaulty, IsDue, Due, file_of}
@@ -29,7 +24,6 @@ use Rattle.mm_top.specs.Linking.{Ends, EndsFor, EndsForTree, IsFirst, AreFirst}
 use Rattle.mm_check_unit.proofs.Built.{built_is_first}
 use Rattle.mm_check_unit.proofs.Valid.{first_is_valid}
 use Rattle.mm_top.proofs.Mains.{first_has_main}
-use Rattle.mm_top.proofs.FewLocals.{few_locals}
 
 -- ---- without tokens
 
@@ -68,31 +62,20 @@ module _ (name : List ℕ) (tokens : Tokens) where
   pub unbuilt_end : (e : Ending) (tree : UnitTree) (place : Place) → first_of all_forms (shown_unit tree).marks ≡ Some place → (e ≡ ending.Fault N0 place (file_of tokens.files place)) ⊎ (e ≡ ending.NoMemory) → EndsForTree e name tokens tree
   unbuilt_end e tree place first is = λ t. fault_end e N0 place (file_of tokens.files place) (λ h r. inr (inr (inl (tokens, tree, record { reads = r; is_tree = t }, first, refl, refl)))) is
 
-  none_or_some : (tree : UnitTree) → IsBuilt tree → statements_of tree ≡ None → (ss : List Stmt) × (statements_of tree ≡ Some ss) → ⊥
-  none_or_some tree b n (ss, s) = let e : None ≡ Some ss = sym n ∙ s in cc
+  none_or_some : (tree : UnitTree) → IsBuilt tree → main_of tree ≡ None → (g : Function) × (main_of tree ≡ Some g) → ⊥
+  none_or_some tree b n (g, s) = let e : None ≡ Some g = sym n ∙ s in cc
 
-  pub mainless_end : (e : Ending) (tree : UnitTree) → IsBuilt tree → statements_of tree ≡ None → (e ≡ ending.Fault P5 unit_start name) ⊎ (e ≡ ending.NoMemory) → EndsForTree e name tokens tree
+  pub mainless_end : (e : Ending) (tree : UnitTree) → IsBuilt tree → main_of tree ≡ None → (e ≡ ending.Fault P5 unit_start name) ⊎ (e ≡ ending.NoMemory) → EndsForTree e name tokens tree
   mainless_end e tree b n is = λ t. fault_end e P5 unit_start name (λ h r. inr (inr (inr (tokens, tree, record { reads = r; is_tree = t }, b, (λ m. none_or_some tree b n (built_is_first tree b m)), refl, refl, refl)))) is
 
 -- ---- sound units
 
-pub is_first : (tree : UnitTree) (ss : List Stmt) → IsBuilt tree → statements_of tree ≡ Some ss → IsFirst tree ss
-is_first tree ss b s = record { built = b; main = first_has_main tree ss s; statements = s }
+pub is_first : (tree : UnitTree) (g : Function) → IsBuilt tree → main_of tree ≡ Some g → IsFirst tree g
+is_first tree g b s = record { built = b; defined = first_has_main tree g s; checked = s }
 
-pub first_valid : (tokens : Tokens) (ss : List Stmt) → AreFirst tokens ss → AreValidStmts (checked ss)
-first_valid tokens ss (tree, t, f) = first_is_valid tree ss f.statements
+pub first_valid : (tokens : Tokens) (g : Function) → AreFirst tokens g → IsSmallProgram (alone g)
+first_valid tokens g (tree, t, f) = first_is_valid tree g f.checked
 
 -- what was written is due
-pub due : (held : Option Contents) (name text : List ℕ) (tokens : Tokens) (ss : List Stmt) → Reads held name tokens → AreFirst tokens ss → IsDue ss text → Due held name text
-due held name text tokens ss r (tree, t, f) d = (ss, d, record { tokens = tokens; tree = tree; read = record { reads = r; is_tree = t }; built = f.built; main = f.main; statements = f.statements })
-
--- the program of statements keeps the rules
-pub stmts_fit : (ss : List Stmt) (p : c.Program) → AreValidStmts (checked ss) → p ≡ lowered_program (checked ss) → IsWellFormed p
-stmts_fit ss p v e = let few = few_locals ss in let small : reach_stmts (checked ss) ≤ 2 ^ 31 = omega arith in rw e (well_formed (checked ss) v small)
-
--- the printed program of statements is due for them
-pub is_due : (text : List ℕ) (ss : List Stmt) (p : c.Program) → AreValidStmts (checked ss) → p ≡ lowered_program (checked ss) → SpellsProgram text p → IsDue ss text
-is_due text ss p v e s =
-    let few = few_locals ss in
-    let small : reach_stmts (checked ss) ≤ 2 ^ 32 = omega arith in
-    record { program = lowered_program (checked ss); spells = subst (SpellsProgram text) e s; translates = translates (checked ss) v small }
+pub due : (held : Option Contents) (name text : List ℕ) (tokens : Tokens) (g : Function) → Reads held name tokens → AreFirst tokens g → IsDue g text → Due held name text
+due held name text tokens g r (tree, t, f) d = (g, d, record { tokens = tokens; tree = tree; read = record { reads = r; is_tree = t }; built = f.built; defined = f.defined; checked = f.checked })

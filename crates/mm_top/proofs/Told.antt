@@ -15,8 +15,8 @@ use Rattle.mm_syntax.specs.declared.decl.Decl.{Decl}
 use Rattle.mm_syntax.specs.declared.decl.Unit.{Unit as UnitTree}
 use Rattle.mm_syntax.specs.Forms.{all_forms, first_of, shown_unit}
 use Rattle.mm_parse_unit.specs.Units.{IsUnit, IsSyntaxFault}
-use Rattle.mm_check_unit.specs.declared.first.Stmt.{Stmt}
-use Rattle.mm_check_unit.specs.First.{statements_of}
+use Rattle.mm_core.specs.Tree.{Function}
+use Rattle.mm_check_unit.specs.First.{main_of}
 use Rattle.mm_check_unit.specs.Laws.{IsBuilt, DefinesMain}
 use Rattle.mm_top.specs.Headline.{IsRead, IsSound, Fault, IsFaulty, IsAbsent, IsLong, file_of}
 use Rattle.mm_parse_unit.proofs.OneAnswer.{one_unit, one_fault, not_both}
@@ -42,13 +42,13 @@ by_refusal token_end.NoMemory = is_none
 abbrev pub at_place : List (List ℕ) → Code → Place → Told
 at_place files code place = is_faulty (record { code = code; place = place; file = file_of files place })
 
-abbrev pub by_statements : List ℕ → Option (List Stmt) → Told
-by_statements name None = is_faulty (record { code = P5; place = unit_start; file = name })
-by_statements name (Some ss) = is_sound
+abbrev pub by_main : List ℕ → Option Function → Told
+by_main name None = is_faulty (record { code = P5; place = unit_start; file = name })
+by_main name (Some g) = is_sound
 
 -- what a tree tells, by its first tree of a form
 abbrev pub by_first : List ℕ → List (List ℕ) → UnitTree → Option Place → Told
-by_first name files tree None = by_statements name (statements_of tree)
+by_first name files tree None = by_main name (main_of tree)
 by_first name files tree (Some place) = at_place files N0 place
 
 abbrev pub by_tree : List ℕ → List (List ℕ) → UnitTree → Told
@@ -112,25 +112,25 @@ module _ (h : Contents) (name : List ℕ) where
   pub one_telling : (v w : Told) → Tells v → Tells w → v ≡ w
   one_telling v w (x, e) (y, f) = sym e ∙ one_told x y ∙ f
 
-  built_tells : (tree : UnitTree) (files : List (List ℕ)) (o : Option (List Stmt)) → IsBuilt tree → statements_of tree ≡ o → by_tree name files tree ≡ by_statements name o
-  built_tells tree files o b s = ap (by_first name files tree) b ∙ ap (by_statements name) s
+  built_tells : (tree : UnitTree) (files : List (List ℕ)) (o : Option Function) → IsBuilt tree → main_of tree ≡ o → by_tree name files tree ≡ by_main name o
+  built_tells tree files o b s = ap (by_first name files tree) b ∙ ap (by_main name) s
 
-  pub sound_tells : (ss : List Stmt) → IsSound (Some h) name ss → Tells is_sound
-  sound_tells ss s = (treed s.tokens s.tree s.read, built_tells s.tree s.tokens.files (Some ss) s.built s.statements)
+  pub sound_tells : (g : Function) → IsSound (Some h) name g → Tells is_sound
+  sound_tells g s = (treed s.tokens s.tree s.read, built_tells s.tree s.tokens.files (Some g) s.built s.checked)
 
   -- a fault whose parts are these
   fault_is : (f : Fault) (code : Code) (place : Place) (file : List ℕ) → f.code ≡ code → f.place ≡ place → f.file ≡ file → is_faulty (record { code = code; place = place; file = file }) ≡ is_faulty f
   fault_is f code place file c p n = ap is_faulty (same_faults code f.code place f.place file f.file (sym c) (sym p) (sym n))
 
-  no_statements : (tree : UnitTree) (o : Option (List Stmt)) → statements_of tree ≡ o → (DefinesMain tree → ⊥) → o ≡ None
-  no_statements tree None s n = refl
-  no_statements tree (Some ss) s n = absurd (n (first_has_main tree ss s))
+  no_main : (tree : UnitTree) (o : Option Function) → main_of tree ≡ o → (DefinesMain tree → ⊥) → o ≡ None
+  no_main tree None s n = refl
+  no_main tree (Some g) s n = absurd (n (first_has_main tree g s))
 
   pub fault_tells : (f : Fault) → IsFaulty (Some h) name f → Tells (is_faulty f)
   fault_tells f (inl r) = (refused (token_end.Fault f.code f.place f.file) tt r, refl)
   fault_tells f (inr (inl (t, r, s, n))) = (faulty t f.code f.place r s, fault_is f f.code f.place (file_of t.files f.place) refl refl n)
   fault_tells f (inr (inr (inl (t, tree, r, first, c, n)))) = (treed t tree r, ap (by_first name t.files tree) first ∙ fault_is f N0 f.place (file_of t.files f.place) c refl n)
-  fault_tells f (inr (inr (inr (t, tree, r, b, m, c, p, n)))) = (treed t tree r, built_tells tree t.files None b (no_statements tree (statements_of tree) refl m) ∙ fault_is f P5 unit_start name c p n)
+  fault_tells f (inr (inr (inr (t, tree, r, b, m, c, p, n)))) = (treed t tree r, built_tells tree t.files None b (no_main tree (main_of tree) refl m) ∙ fault_is f P5 unit_start name c p n)
 
   pub absent_tells : (file : List ℕ) → IsAbsent (Some h) name file → Tells is_absent
   absent_tells file (place, r) = (refused (token_end.Absent file place) tt r, refl)

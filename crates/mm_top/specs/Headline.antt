@@ -3,7 +3,7 @@ use Rattle.std.specs.Prelude.{◌≡◌, ◌⊎◌, ℕ, ◌+◌, ◌==◌, if�
 use Rattle.std.specs.Fmt.{decimal}
 use Rattle.mm_base.specs.Outside.{Contents, FilesSeen, SinkSeen, Rose, RoseBy}
 use Rattle.mm_base.specs.Outside as outside
-use Rattle.mm_core.specs.Tree.{program_of}
+use Rattle.mm_core.specs.Tree.{Function}
 use Rattle.mm_c.specs.Tree as c
 use Rattle.mm_c.specs.Spelling.{SpellsProgram}
 use Rattle.mm_agree.specs.Translates.{Translates}
@@ -18,9 +18,8 @@ use Rattle.mm_token.specs.Tokens.{unit_start, Reads, IsRefused}
 use Rattle.mm_syntax.specs.declared.decl.Unit.{Unit as UnitTree}
 use Rattle.mm_syntax.specs.Forms.{all_forms, first_of, shown_unit}
 use Rattle.mm_parse_unit.specs.Units.{IsTreeOf, IsSyntaxFault}
-use Rattle.mm_check_unit.specs.declared.first.Stmt.{Stmt}
-use Rattle.mm_check_unit.specs.First.{checked, statements_of}
-use Rattle.mm_check_unit.specs.Laws.{IsBuilt, DefinesMain}
+use Rattle.mm_check_unit.specs.First.{main_of}
+use Rattle.mm_check_unit.specs.Laws.{IsBuilt, DefinesMain, alone}
 use Rattle.mm_top.specs.declared.link.Ending.{Ending}
 use Rattle.mm_top.specs.declared.link.Ending.TheVariants as ending
 
@@ -60,14 +59,15 @@ pub record IsRead (held : Option Contents) (name : List ℕ) (tokens : Tokens) (
   pub reads : Reads held name tokens
   pub is_tree : IsTreeOf tokens tree
 
--- The files give a unit of these statements under the name, whose trees are all built, and which defines `int main()`.
-pub record IsSound (held : Option Contents) (name : List ℕ) (ss : List Stmt) : Type 0 where
+-- The files give a unit under the name, whose trees are all built, and which defines `int main()`;
+-- checked, it is this function.
+pub record IsSound (held : Option Contents) (name : List ℕ) (main : Function) : Type 0 where
   pub tokens : Tokens
   pub tree : UnitTree
   pub read : IsRead held name tokens tree
   pub built : IsBuilt tree
-  pub main : DefinesMain tree
-  pub statements : statements_of tree ≡ Some ss
+  pub defined : DefinesMain tree
+  pub checked : main_of tree ≡ Some main
 
 -- ---- the first fault
 
@@ -111,16 +111,16 @@ IsLong held name file = IsRefused held name (token_end.TooLong file)
 abbrev pub IsUnread : Option Contents → List ℕ → List ℕ → Type 0
 IsUnread held name file = IsRefused held name (token_end.Failed file)
 
--- The text spells a C program that, for every input and at every bound on the steps, ends, traps or goes on as the
--- unit does, puts the same numbers, and is never stuck.
-pub record IsDue (ss : List Stmt) (text : List ℕ) : Type 0 where
+-- The text spells a C program that, for every input and at every bound on the steps, ends, traps or
+-- goes on as the program of this one function does, puts the same numbers, and is never stuck.
+pub record IsDue (main : Function) (text : List ℕ) : Type 0 where
   pub program : c.Program
   pub spells : SpellsProgram text program
-  pub translates : Translates (program_of (checked ss)) program
+  pub translates : Translates (alone main) program
 
 -- The C text is due for the unit that the files give.
 abbrev pub Due : Option Contents → List ℕ → List ℕ → Type 0
-Due held name text = (ss : List Stmt) × IsDue ss text × IsSound held name ss
+Due held name text = (main : Function) × IsDue main text × IsSound held name main
 
 -- ---- how the linking of a file ends
 
@@ -208,7 +208,9 @@ pub record Answers (status : ℕ) (asked : Option (List ℕ)) (files : Change Fi
   -- no other status is given
   pub only : (status ≡ 0) ⊎ (status ≡ 1) ⊎ (status ≡ 2) ⊎ (status ≡ 3) ⊎ (status ≡ 4) ⊎ (status ≡ 13) ⊎ (status ≡ 9)
   -- The other way, where files tell what they hold and have not failed, and out has not: each case has its status, or memory ran out.
-  pub complete : (h : Contents) (name : List ℕ) (ss : List Stmt) → files.old.held ≡ Some h → asked ≡ Some name → IsSound (Some h) name ss → (FilesFailed files → ⊥) → (SinkFailed out → ⊥) → (status ≡ 0) ⊎ (status ≡ 9)
+  pub complete : (h : Contents) (name : List ℕ) (main : Function) → files.old.held ≡ Some h →
+      asked ≡ Some name → IsSound (Some h) name main → (FilesFailed files → ⊥) →
+      (SinkFailed out → ⊥) → (status ≡ 0) ⊎ (status ≡ 9)
   pub refused : (h : Contents) (name : List ℕ) (f : Fault) → files.old.held ≡ Some h → asked ≡ Some name → IsFaulty (Some h) name f → (FilesFailed files → ⊥) → ((status ≡ 1) × Says (fault_message f.code f.place f.file) err) ⊎ (status ≡ 9)
   pub past_limit : (h : Contents) (name file : List ℕ) → files.old.held ≡ Some h → asked ≡ Some name → IsLong (Some h) name file → (FilesFailed files → ⊥) → (status ≡ 13) ⊎ (status ≡ 9)
   pub missing : (h : Contents) (name file : List ℕ) → files.old.held ≡ Some h → asked ≡ Some name → IsAbsent (Some h) name file → (FilesFailed files → ⊥) → (status ≡ 3) ⊎ (status ≡ 9)

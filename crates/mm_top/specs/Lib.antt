@@ -1,4 +1,3 @@
 pub mod Command
-pub mod Lowering
 pub mod Headline
 pub mod Linking

@@ -1,12 +1,12 @@
--- What the steps of `link` leave for the next: how a linking ends that comes to no statements.
+-- What the steps of `link` leave for the next: how a linking ends that comes to no function.
 use Rattle.std.specs.Prelude.{◌≡◌, ℕ, List, Some}
 use Rattle.mm_base.specs.Outside.{FilesSeen, SinkSeen}
 use Rattle.mm_token.specs.declared.token.Tokens.{Tokens}
 use Rattle.mm_token.specs.Tokens.{Reads}
 use Rattle.mm_syntax.specs.declared.decl.Unit.{Unit as UnitTree}
 use Rattle.mm_parse_unit.specs.Units.{IsTreeOf}
-use Rattle.mm_check_unit.specs.declared.first.Stmt.{Stmt}
-use Rattle.mm_check_unit.specs.First.{statements_of}
+use Rattle.mm_core.specs.Tree.{Function}
+use Rattle.mm_check_unit.specs.First.{main_of}
 use Rattle.mm_check_unit.specs.Laws.{IsBuilt, DefinesMain}
 use Rattle.mm_top.specs.declared.link.Ending.{Ending}
 use Rattle.mm_top.specs.Headline.{Change, IsSame, Linked}
@@ -23,12 +23,13 @@ EndsFor ending name tokens = (files : Change FilesSeen) → Reads files.old.held
 abbrev pub EndsForTree : Ending → List ℕ → Tokens → UnitTree → Type 0
 EndsForTree ending name tokens tree = IsTreeOf tokens tree → EndsFor ending name tokens
 
--- The tree is a first text of these statements, all of it built, and `int main()` among it.
-pub record IsFirst (tree : UnitTree) (ss : List Stmt) : Type 0 where
+-- The tree is a first text, all of it built, and `int main()` among it; checked, it is this
+-- function.
+pub record IsFirst (tree : UnitTree) (main : Function) : Type 0 where
   pub built : IsBuilt tree
-  pub main : DefinesMain tree
-  pub statements : statements_of tree ≡ Some ss
+  pub defined : DefinesMain tree
+  pub checked : main_of tree ≡ Some main
 
 -- the same of the tree of these tokens
-abbrev pub AreFirst : Tokens → List Stmt → Type 0
-AreFirst tokens ss = (tree : UnitTree) × IsTreeOf tokens tree × IsFirst tree ss
+abbrev pub AreFirst : Tokens → Function → Type 0
+AreFirst tokens main = (tree : UnitTree) × IsTreeOf tokens tree × IsFirst tree main

@@ -2,8 +2,6 @@
 #![tactic(auto)]
 
 mod link;
-#[tactic(auto, using(crate::proofs::Codes::lower_rules))]
-mod lower;
 mod top;
 mod words;
 

@@ -1,22 +1,23 @@
 // From a file to a C text.
 
 ghost use Rattle.std.specs.Prelude.{◌≡◌, ◌⊎◌, IfOk, MatchResult};
-ghost use Rattle.mm_core.specs.Valid.{AreValidStmts};
+ghost use Rattle.mm_core.specs.View.{function_view};
 ghost use Rattle.mm_token.specs.Tokens.{Reads};
 ghost use Rattle.mm_parse_unit.specs.Units.{IsTreeOf};
-ghost use Rattle.mm_check_unit.specs.First.{checked};
+ghost use Rattle.mm_check_unit.specs.Laws.{alone, IsSmallProgram};
 ghost use Rattle.mm_top.specs.Headline.{file_of, Due, IsDue, Linked};
 ghost use Rattle.mm_top.specs.Linking.{Ends, EndsFor, EndsForTree, IsFirst, AreFirst};
 ghost use Rattle.mm_top.specs.declared.link.Ending.TheVariants as ending;
 
-use crate::lower::lower;
 use mm_base::code::{Code, NoMemory};
 use mm_base::outside::{Files, Sink};
 use mm_base::place::Place;
 use mm_base::text::Text;
 use mm_base::writing::{WriteEnd, put_all};
 use mm_c_print::print;
-use mm_check_unit::first::{Stmt, statements};
+use mm_check_unit::first::main_function;
+use mm_core::tree::CoreFn;
+use mm_lower::program::lower_program;
 use mm_parse_expr::ParseEnd;
 use mm_parse_unit::unit;
 use mm_syntax::decl::Unit;
@@ -24,6 +25,7 @@ use mm_syntax::form::Forms;
 use mm_syntax::walk::walk_any;
 use mm_token::read::get_tokens;
 use mm_token::token::{TokenEnd, Tokens};
+use sqlite_items::Items;
 use std::alloc::{AllocError, Global};
 
 /// How the linking of a file ended.
@@ -102,23 +104,25 @@ fn parse(alloc: Global, name: &str, tokens: &Tokens) -> Result<Unit, Ending>
     }
 }
 
-/// The statements of a tree.
-fn check(alloc: Global, name: &str, tokens: &Tokens, tree: &Unit) -> Result<Vec<Stmt>, Ending>
-    ensures { MatchResult result (λ v. IsFirst tree.now v.items) (λ e. EndsForTree e name.now tokens.now tree.now) }
+/// The checked `main` of a tree.
+fn check(alloc: Global, name: &str, tokens: &Tokens, tree: &Unit) -> Result<CoreFn, Ending>
+    ensures { MatchResult result (λ f. IsFirst tree.now (function_view f))
+        (λ e. EndsForTree e name.now tokens.now tree.now) }
 {
     if let Some(place) = walk_any(tree, Forms::all()) {
         return Err(fault(alloc, Code::N0, place, tokens));
     }
-    match statements(alloc, tree) {
-        Ok(Some(stmts)) => Ok(stmts),
+    match main_function(alloc, tree) {
+        Ok(Some(function)) => Ok(function),
         Ok(None) => Err(fault_in(alloc, Code::P5, START, name)),
         Err(e) => Err(Ending::from(e)),
     }
 }
 
-/// The statements of these tokens.
-fn front(alloc: Global, name: &str, tokens: &Tokens) -> Result<Vec<Stmt>, Ending>
-    ensures { MatchResult result (λ v. AreFirst tokens.now v.items) (λ e. EndsFor e name.now tokens.now) }
+/// The checked `main` of these tokens.
+fn front(alloc: Global, name: &str, tokens: &Tokens) -> Result<CoreFn, Ending>
+    ensures { MatchResult result (λ f. AreFirst tokens.now (function_view f))
+        (λ e. EndsFor e name.now tokens.now) }
 {
     match parse(alloc, name, tokens) {
         Ok(tree) => check(alloc, name, tokens, &tree),
@@ -126,12 +130,14 @@ fn front(alloc: Global, name: &str, tokens: &Tokens) -> Result<Vec<Stmt>, Ending
     }
 }
 
-/// The C text of statements.
-fn back(alloc: Global, stmts: &[Stmt]) -> Result<Vec<u8>, NoMemory>
-    requires { AreValidStmts (checked stmts.now) }
-    ensures { IfOk result (λ text. IsDue stmts.now text.items) }
+/// The C text of the program of one function.
+fn back(alloc: Global, function: CoreFn) -> Result<Vec<u8>, NoMemory>
+    requires { IsSmallProgram (alone (function_view function)) }
+    ensures { IfOk result (λ text. IsDue (function_view function) text.items) }
 {
-    let program = lower(alloc, stmts)?;
+    let mut functions = Items::new(alloc);
+    functions.push(function)?;
+    let program = lower_program(alloc, functions.as_slice())?;
     Ok(print(alloc, &program)?)
 }
 
@@ -144,11 +150,11 @@ fn translate<F: Files>(alloc: Global, name: &str, files: &mut F) -> Result<Vec<u
         Ok(tokens) => tokens,
         Err(e) => return Err(e),
     };
-    let stmts = match front(alloc, name, &tokens) {
-        Ok(stmts) => stmts,
+    let function = match front(alloc, name, &tokens) {
+        Ok(function) => function,
         Err(e) => return Err(e),
     };
-    match back(alloc, stmts.as_slice()) {
+    match back(alloc, function) {
         Ok(text) => Ok(text),
         Err(_) => Err(Ending::NoMemory),
     }

@@ -1,4 +1,5 @@
 use Rattle.std.proofs.Common.{sym, ap, ◌∙◌}
+use Rattle.mm_core.specs.View.{function_view}
 use Rattle.mm_syntax.specs.Forms.{first_of, shown_unit}
 use Rattle.mm_top.proofs.LinkLaws.{unbuilt_end, mainless_end, is_first}
 use Rattle.mm_top.proofs.link.check.Goals as goal
@@ -16,4 +17,4 @@ returns-in-Ok-None c =
 pub returns-in-Ok-Some : goal.returns-in-Ok-Some
 returns-in-Ok-Some c =
     let is = sym (ap (λ forms. first_of forms (shown_unit c.args.tree.now).marks) c.all.ensures) ∙ (sym c.walk_any.ensures ∙ c.in_default.is) in
-    is_first c.args.tree.now c.in-Ok-Some.stmts.items is (rw c.in-Ok-Some.field-0-is at c.in-Ok-Some.ensures)
+    is_first c.args.tree.now (function_view c.in-Ok-Some.function) is (rw c.in-Ok-Some.field-0-is at c.in-Ok-Some.ensures)
