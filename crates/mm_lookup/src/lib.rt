@@ -4,3 +4,5 @@
 pub mod find;
 pub mod found;
 pub mod law;
+pub mod may;
+pub(crate) mod uses;
