@@ -1,4 +1,4 @@
-//! Access.
+//! Who may use a member or a base.
 
 ghost use Rattle.std.specs.Prelude.{IfSome, length, ◌<◌};
 ghost use Rattle.std.specs.Bool.{Decides};
@@ -6,7 +6,7 @@ ghost use Rattle.mm_classes.specs.Classes.{IsClassList, IsComplete, members_of};
 ghost use Rattle.mm_classes.specs.Laws.{HasAccess};
 ghost use Rattle.mm_classes.specs.Questions.{node as node_at, IsNode};
 ghost use Rattle.mm_classes.specs.Subobjects.{end_of};
-ghost use Rattle.mm_lookup.specs.Access.{MayUse, IsUsedBy, IsReached, IsAllowed, BaseIsAccessible, member_access};
+ghost use Rattle.mm_lookup.specs.Access.{MayUse, IsUsedBy, IsReached, IsAllowed, BaseIsAccessible};
 
 use crate::found::Context;
 use crate::uses::uses_at;
@@ -77,9 +77,10 @@ fn is_reached(graph: &Graph, from: &Context, declared: Access, c: ClassId, x: Cl
     x == f || graph.derives(x, f)
 }
 
-/// Whether the member, by its number in the class of the subobject `node` of `naming`, may be used there, in an object of
-/// class `through`. A public step to a base and then at once: it goes over the subobjects of `naming`, and for each over
-/// those of the context's class only where the member is protected there. It takes no memory.
+/// Whether a member, by its number in the class of the subobject `node` of `naming`, may be used where it is
+/// named in `naming`, in an object of class `through`. It goes over the subobjects of `naming`, for each over those
+/// of the context's class where the member is protected there, and takes no memory. In outline ISO/IEC 14882:1998,
+/// 11.2 and 11.5.
 pub fn may(
     graph: &Graph,
     from: Context,
@@ -93,9 +94,9 @@ pub fn may(
     requires through { IsComplete graph.now through }
     requires node { IsNode graph.now naming node }
     requires member { member < length (members_of graph.now (end_of (node_at graph.now naming node))) }
-    ensures { Decides result (IsAllowed graph.now from.class naming (node_at graph.now naming node) (member_access (members_of graph.now (end_of (node_at graph.now naming node))) member) through) }
+    ensures { Decides result (IsAllowed graph.now from.class naming (node_at graph.now naming node) member through) }
 {
-    // Asked here, so that the graph is known to be a class list in which each subobject has one access.
+    // Asked here, so that each subobject is known to have one access.
     let _classes = graph.classes();
     let class = graph.class_of(naming, node);
     let declared = graph.members(class)[member as usize].access;
@@ -105,14 +106,14 @@ pub fn may(
     may_use(graph, &from, naming, node, declared)
 }
 
-/// Whether the base that is the subobject `node` of `c` may be used: a public member of it may. It takes no memory.
+/// Whether the base that is the subobject `node` of `c` may be used, as a conversion to it asks. It takes no memory.
 pub fn base_may(graph: &Graph, from: Context, c: ClassId, node: NodeId) -> bool
     requires from { IfSome from.class (IsComplete graph.now) }
     requires complete { IsComplete graph.now c }
     requires node { IsNode graph.now c node }
     ensures { Decides result (BaseIsAccessible graph.now from.class c (node_at graph.now c node)) }
 {
-    // Asked here, so that the graph is known to be a class list in which each subobject has one access.
+    // Asked here, so that each subobject is known to have one access.
     let _classes = graph.classes();
     may_use(graph, &from, c, node, Access::Public)
 }
