@@ -1,5 +1,5 @@
 -- Who may use a member: at most one public step, and then one of the first three cases.
-use Rattle.std.proofs.Common.{◌≡◌, ◌≢◌, ℕ, zero, suc, ◌<◌, ◌≤◌, List, [], ◌∷◌, ◌++◌, refl, sym, subst, ap, ap₂, ◌∙◌, inl, inr, arith}
+use Rattle.std.proofs.Common.{◌≡◌, ℕ, ◌≤◌, List, [], ◌∷◌, ◌++◌, refl, sym, subst, ap, ◌∙◌, inl, inr, arith}
 use Rattle.std.specs.Prelude.{true, false, ◌⊎◌, min, Option, None, Some}
 use Rattle.mm_classes.specs.declared.class.Access.{Access}
 use Rattle.mm_classes.specs.declared.class.Access.TheVariants.{Public, Protected, Private}
@@ -13,7 +13,7 @@ use Rattle.mm_classes.proofs.Answering.{end_complete, complete_below}
 use Rattle.mm_classes.proofs.Compose.{compose-sub, compose-end, compose-assoc, whole_or_lower, sub_falls}
 use Rattle.mm_classes.proofs.Deriving.{derives_falls}
 use Rattle.mm_classes.proofs.Ways.{compose-one, links_sub}
-use Rattle.mm_classes.proofs.AccessLaws.{grade-public, access_itself, along_capped, capped-grade, capped}
+use Rattle.mm_classes.proofs.AccessLaws.{grade-public, access_itself, along_capped, capped-grade}
 use Rattle.mm_lookup.specs.Access.{UsesAt, everywhere, own, derived, MayUse, at_once, by_base, IsCollapsed}
 use Rattle.mm_lookup.proofs.Chains.{along-append, joined}
 

@@ -1,9 +1,7 @@
 -- What is found, from one that contains all, or from none that does.
-use Rattle.std.proofs.Common.{◌≡◌, ◌≢◌, ℕ, zero, suc, ◌+◌, ◌<◌, ◌≤◌, List, [], ◌∷◌, length, get_or, refl, sym, subst, ap, ◌∙◌, inl, inr, arith}
-use Rattle.std.specs.Prelude.{Bool, true, false, ◌⊎◌, Option, None, Some, MatchOption, IfSome}
-use Rattle.mm_classes.specs.declared.class.Member.{Member}
+use Rattle.std.proofs.Common.{◌≡◌, ℕ, ◌+◌, ◌<◌, List, length, sym, subst, inl, inr, arith}
+use Rattle.std.specs.Prelude.{◌⊎◌, Option, None, Some, MatchOption, IfSome}
 use Rattle.mm_classes.specs.declared.answer.Up.TheVariants as up
-use Rattle.mm_classes.specs.Lists.{Has}
 use Rattle.mm_classes.specs.Classes.{Class, members_of, IsClassList}
 use Rattle.mm_classes.specs.Subobjects.{subobjects_of, end_of, IsWithin}
 use Rattle.mm_classes.specs.Questions.{node, IsNode, Picks, IsLeft}

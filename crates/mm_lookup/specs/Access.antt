@@ -1,11 +1,13 @@
 -- Who may use a member. ISO/IEC 14882:1998, 11.2 (accessibility of base classes and base class members), 11.5 (protected
 -- member access), in outline.
-use Rattle.std.specs.Prelude.{◌≡◌, ◌≢◌, ℕ, List, [], ◌∷◌, ◌⊎◌, Option, None, Some}
+use Rattle.std.specs.Prelude.{◌≡◌, ◌≢◌, ℕ, List, [], ◌∷◌, ◌⊎◌, Option, None, Some, map, get_or}
 use Rattle.mm_classes.specs.declared.class.Access.{Access}
 use Rattle.mm_classes.specs.declared.class.Access.TheVariants.{Public, Protected, Private}
+use Rattle.mm_classes.specs.declared.class.Member.{Member}
 use Rattle.mm_classes.specs.Access.{IsAccess}
-use Rattle.mm_classes.specs.Classes.{Class, IsComplete, Derives}
+use Rattle.mm_classes.specs.Classes.{Class, IsComplete, Derives, members_of}
 use Rattle.mm_classes.specs.Subobjects.{Path, IsSubobject, end_of, compose}
+use Rattle.mm_classes.specs.Questions.{node}
 
 -- A member of access a of the subobject q may be used where it is named in class n, from a member function of class f or from
 -- outside all classes, in one of the first three cases (11.2/4): it is public there; or it has some access, and f is n; or it is
@@ -46,3 +48,25 @@ pub record IsCollapsed (g : List Class) (f : Option ℕ) (n : ℕ) (q : Path) (a
 pub record Collapses (g : List Class) : Type 0 where
   pub to : (f : Option ℕ) (n : ℕ) (q : Path) (a : Access) → IsComplete g n → MayUse g f n q a → IsCollapsed g f n q a
   pub back : (f : Option ℕ) (n : ℕ) (q : Path) (a : Access) → IsCollapsed g f n q a → MayUse g f n q a
+
+-- WHAT IS ASKED
+-- the access with which the k-th member of the class of the subobject q is declared
+abbrev pub declared_access : List Class → Path → ℕ → Access
+declared_access g q k = get_or (map (λ (m : Member). m.access) (members_of g (end_of q))) k Private
+
+-- that member may be used where it is named in class n, of an object of class x
+abbrev pub IsAllowed : List Class → Option ℕ → ℕ → Path → ℕ → ℕ → Type 0
+IsAllowed g f n q k x = IsReached g f (declared_access g q k) (end_of q) x × MayUse g f n q (declared_access g q k)
+
+-- The r-th subobject of f is of class n, and a member of access a of q, a subobject of n, has some access where it is
+-- named in f by way of it. Own.
+abbrev pub HasAccessBy : List Class → ℕ → ℕ → Path → Access → ℕ → Type 0
+HasAccessBy g f n q a r = (end_of (node g f r) ≡ n)
+    × ((x : Access) × IsAccess g f (compose (node g f r) q) a (Some x))
+
+-- A public step leads to the t-th subobject of n, and at its class the member may be used in one of the first three
+-- cases. Own.
+abbrev pub IsUsedBy : List Class → Option ℕ → ℕ → Path → Access → ℕ → Type 0
+IsUsedBy g f n q a t = IsAccess g n (node g n t) Public (Some Public)
+    × ((p : Path) × IsSubobject g (end_of (node g n t)) p × (compose (node g n t) p ≡ q)
+    × UsesAt g f (end_of (node g n t)) p a)

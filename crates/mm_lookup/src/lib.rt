@@ -4,3 +4,7 @@
 pub mod find;
 pub mod found;
 pub mod law;
+pub mod may;
+#[cfg(test)]
+mod tests;
+pub(crate) mod uses;

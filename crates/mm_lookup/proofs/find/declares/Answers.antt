@@ -1,5 +1,4 @@
 use Rattle.std.proofs.Common.{sym, subst}
-use Rattle.std.specs.Prelude.{is_some}
 use Rattle.std.specs.Bool.{Decides}
 use Rattle.mm_classes.specs.Classes.{members_of}
 use Rattle.mm_lookup.proofs.Declaring.{Named, first_decides}
