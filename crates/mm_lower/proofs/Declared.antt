@@ -58,13 +58,19 @@ not_there ds x k t e h m =
 module _ (x : List ℕ) (xs : List (List ℕ)) (ds : List (CKind × ℕ)) where
   more_none : (ls : List CLocal) → kind_named x ≡ None → Found ls xs ds → Found ls (x ∷ xs) ds
   more_none ls h r = record {
-    temps = r.temps; same = r.same; once = r.once; kept = r.kept;
+    temps = r.temps;
+    same = r.same;
+    once = r.once;
+    kept = r.kept;
     mentioned = λ k t m. elim m [ first q ↦ absurd (no_kind x k t h q) | later n ↦ r.mentioned k t n ];
   }
 
   more_some : (ls : List CLocal) (es : List (CKind × ℕ)) (k : CKind) (t : ℕ) → x ≡ named (temporary k t) → ((d : CKind × ℕ) → Has ds d → Has es d) → Has es (k, t) → Found ls xs es → Found ls (x ∷ xs) ds
   more_some ls es k t e keep has r = record {
-    temps = r.temps; same = r.same; once = r.once; kept = λ d h. r.kept d (keep d h);
+    temps = r.temps;
+    same = r.same;
+    once = r.once;
+    kept = λ d h. r.kept d (keep d h);
     mentioned = λ j s m. elim m [ first q ↦ subst (λ d. Has r.temps d) (one_pair k j t s (sym e ∙ q)) (r.kept (k, t) has) | later n ↦ r.mentioned j s n ];
   }
 

@@ -70,5 +70,7 @@ head_of p d = c.proto (record {
 })
 
 abbrev pub written : Program → c.Program
-written p = record { items = map (head_of p) (others p) ++ (map (item_of p) (entry p) ++
-    map (item_of p) (others p)) }
+written p = record {
+  items = map (head_of p) (others p) ++ (map (item_of p) (entry p) ++
+      map (item_of p) (others p));
+}

@@ -9,8 +9,8 @@ ghost use Rattle.mm_simulate.specs.Lowered.{reach, reach_all};
 ghost use Rattle.mm_lower.specs.Scopes.{IsIn, AreIn, type_in, code_in, all_in, atoms_in};
 
 use crate::node::{
-    and_then, call_builtin, call_function, convert, int_name, load_bool, load_int, load_local, load_word,
-    name_for, negate, operate, or_else, step_local, store_local,
+    and_then, call_builtin, call_function, convert, int_name, load_bool, load_int, load_local,
+    load_word, name_for, negate, operate, or_else, step_local, store_local,
 };
 use crate::scope::Scope;
 use crate::types::branch_type;

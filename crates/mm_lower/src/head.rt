@@ -80,11 +80,7 @@ pub fn local_types(alloc: Global, function: &CoreFn) -> Result<Items<Ty>, AllocE
 }
 
 /// The locals from a number on, by the types of all.
-pub fn locals_from(
-    alloc: Global,
-    types: &[Ty],
-    first: usize,
-) -> Result<Items<CLocal>, AllocError>
+pub fn locals_from(alloc: Global, types: &[Ty], first: usize) -> Result<Items<CLocal>, AllocError>
     requires { first ≤ length types.now }
     ensures { IfOk result (λ locals. locals ≡ lowered.locals_from first (drop first types.now)) }
 {

@@ -79,12 +79,7 @@ fn int_atom(z: i32) -> CAtom
 }
 
 /// A number.
-pub fn load_int(
-    alloc: Global,
-    code: &mut Items<CStmt>,
-    t: u32,
-    z: i32,
-) -> Result<Ty, AllocError>
+pub fn load_int(alloc: Global, code: &mut Items<CStmt>, t: u32, z: i32) -> Result<Ty, AllocError>
     ensures code { OnOk result (code_view code.new ≡ code_view code.old ⨾ lowered.set (lowered.i_ t) (expr.Atom (lowered.int_atom z))) }
     ensures value { IfOk result (λ found. found ≡ type.Int) }
 {
@@ -93,12 +88,7 @@ pub fn load_int(
 }
 
 /// A number of `unsigned`.
-pub fn load_word(
-    alloc: Global,
-    code: &mut Items<CStmt>,
-    t: u32,
-    n: u32,
-) -> Result<Ty, AllocError>
+pub fn load_word(alloc: Global, code: &mut Items<CStmt>, t: u32, n: u32) -> Result<Ty, AllocError>
     ensures code { OnOk result (code_view code.new ≡ code_view code.old ⨾ lowered.set (lowered.u_ t) (expr.Atom (lowered.word n))) }
     ensures value { IfOk result (λ found. found ≡ type.Unsigned) }
 {
@@ -107,12 +97,7 @@ pub fn load_word(
 }
 
 /// A `bool`.
-pub fn load_bool(
-    alloc: Global,
-    code: &mut Items<CStmt>,
-    t: u32,
-    b: bool,
-) -> Result<Ty, AllocError>
+pub fn load_bool(alloc: Global, code: &mut Items<CStmt>, t: u32, b: bool) -> Result<Ty, AllocError>
     ensures code { OnOk result (code_view code.new ≡ code_view code.old ⨾ lowered.set (lowered.i_ t) (expr.Atom (lowered.plain (lowered.bit b)))) }
     ensures value { IfOk result (λ found. found ≡ type.Bool) }
 {
@@ -217,7 +202,12 @@ fn on_pointers(
 {
     let left = pointer_name(t).atom(alloc)?;
     let right = pointer_name(t + 1).atom(alloc)?;
-    set(alloc, code, to, CExpr::Binary(left, operator_in_c(operator), right))
+    set(
+        alloc,
+        code,
+        to,
+        CExpr::Binary(left, operator_in_c(operator), right),
+    )
 }
 
 /// An operator on two operands of a type, in t and the next temporary.

@@ -121,7 +121,14 @@ fn minus_test(alloc: Global, code: &mut Items<CStmt>, at: Operands) -> Result<()
     compute(alloc, code, at.test, right, COperator::Equal, minus_one())?;
     let mut branch = Items::new(alloc);
     let left = at.left.atom(alloc)?;
-    compute(alloc, &mut branch, at.test, left, COperator::Equal, CAtom::Least)?;
+    compute(
+        alloc,
+        &mut branch,
+        at.test,
+        left,
+        COperator::Equal,
+        CAtom::Least,
+    )?;
     only_if(alloc, code, at.test, branch)
 }
 

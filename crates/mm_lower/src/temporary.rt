@@ -102,11 +102,7 @@ fn note_atom(alloc: Global, atom: &CAtom, locals: &mut Items<CLocal>) -> Result<
     }
 }
 
-fn note_atoms(
-    alloc: Global,
-    atoms: &[CAtom],
-    locals: &mut Items<CLocal>,
-) -> Result<(), AllocError>
+fn note_atoms(alloc: Global, atoms: &[CAtom], locals: &mut Items<CLocal>) -> Result<(), AllocError>
     ensures { OnOk result (locals.new ≡ noted_all locals.old (atoms_names atoms.now)) }
 {
     for atom in atoms {

@@ -87,7 +87,11 @@ pub fn compares(operator: Operator) -> bool
 pub fn operator_type(operator: Operator, operand: &Ty) -> Ty
     ensures { result ≡ if valid.compares operator then ty.Bool else operand.now }
 {
-    if compares(operator) { Ty::Bool } else { *operand }
+    if compares(operator) {
+        Ty::Bool
+    } else {
+        *operand
+    }
 }
 
 /// The type that a conversion gives.
