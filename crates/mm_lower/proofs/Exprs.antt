@@ -7,7 +7,7 @@ use Rattle.mm_core.specs.declared.tree.CoreExpr.{CoreExpr}
 use Rattle.mm_core.specs.View.{expr_view, exprs_view}
 use Rattle.mm_c.specs.declared.tree.CAtom.{CAtom}
 use Rattle.mm_c.specs.declared.tree.CAtom.TheVariants.{Name}
-use Rattle.mm_c.specs.Tree.{Code, done, ◌⨾◌}
+use Rattle.mm_c.specs.Tree.{Code, ◌⨾◌}
 use Rattle.mm_c.proofs.Views.{⨾-assoc, ⨾-done}
 use Rattle.mm_simulate.specs.Lowered.{of_, reach, reach_all}
 use Rattle.mm_lower.specs.declared.scope.Scope.{Scope}

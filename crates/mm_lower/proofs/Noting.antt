@@ -10,7 +10,7 @@ use Rattle.mm_c.specs.declared.tree.CBlock.{CBlock}
 use Rattle.mm_c.specs.Tree.{Stmt, if_only, if_else, forever, Block, block, Code, done, do_then}
 use Rattle.mm_c.specs.View.{stmt_view, block_view, code_view}
 use Rattle.mm_c.proofs.Views.{view-block}
-use Rattle.mm_simulate.specs.Temporaries.{atom_names, atoms_names, stmt_names, block_names, names_in}
+use Rattle.mm_simulate.specs.Temporaries.{atom_names, atoms_names, stmt_names, names_in}
 use Rattle.mm_lower.specs.Needed.{noted, noted_all}
 
 pub noted_append : (ls : List CLocal) (xs ys : List (List ℕ)) → noted_all ls (xs ++ ys) ≡ noted_all (noted_all ls xs) ys

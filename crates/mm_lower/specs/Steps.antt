@@ -1,6 +1,6 @@
 -- Which steps of a `for` are alike. (Own.)
 use Rattle.std.specs.Prelude.{Bool, true, false}
-use Rattle.mm_core.specs.Tree.{Stmt, block, run, Stmts, no_stmts, stmt_and}
+use Rattle.mm_core.specs.Tree.{Stmt, block, run, no_stmts}
 
 -- an empty block
 abbrev pub is_nothing : Stmt → Bool

@@ -1,11 +1,7 @@
-use Rattle.std.proofs.Common.{rules, suc, ◌+◌, ◌≡◌, ◌++◌, ◌∷◌, [], ap, ◌∙◌, subst, arith}
-use Rattle.mm_core.specs.View.{exprs_view}
-use Rattle.mm_c.specs.Tree.{◌⨾◌}
+use Rattle.std.proofs.Common.{ap, ◌∙◌, arith}
 use Rattle.mm_c.specs.View.{code_view}
 use Rattle.mm_c.specs.declared.tree.CAtom.TheVariants.{Name}
-use Rattle.mm_simulate.specs.Lowered.{of_}
-use Rattle.mm_lower.specs.Scopes.{all_in}
-use Rattle.mm_lower.proofs.Exprs.{SoFar, start, item, item_depth, next_few, next_with, end_code, end_atoms}
+use Rattle.mm_lower.proofs.Exprs.{start, item, item_depth, next_few, next_with, end_code, end_atoms}
 use Rattle.mm_lower.proofs.expr.+expr.Goals as goal
 
 pub lower_all-loop-e-init : goal.lower_all-loop-e-init

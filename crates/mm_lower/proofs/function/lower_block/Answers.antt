@@ -1,4 +1,4 @@
-use Rattle.std.proofs.Common.{◌≡◌, length, ap, ◌∙◌}
+use Rattle.std.proofs.Common.{length, ap, ◌∙◌}
 use Rattle.mm_core.specs.View.{function_view, stmt_view}
 use Rattle.mm_c.specs.View.{block_view, code_view}
 use Rattle.mm_lower.proofs.Heads.{block_done}

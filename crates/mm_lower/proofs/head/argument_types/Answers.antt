@@ -1,4 +1,4 @@
-use Rattle.std.proofs.Common.{◌≡◌, ap, ◌∙◌}
+use Rattle.std.proofs.Common.{ap, ◌∙◌}
 use Rattle.mm_core.specs.Heads.{types_of_params}
 use Rattle.mm_core.specs.View.{function_view}
 use Rattle.mm_lower.proofs.Heads.{args_plain}

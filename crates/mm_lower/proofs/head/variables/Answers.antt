@@ -1,4 +1,4 @@
-use Rattle.std.proofs.Common.{◌≡◌, ◌∙◌}
+use Rattle.std.proofs.Common.{◌∙◌}
 use Rattle.mm_core.specs.View.{function_view}
 use Rattle.mm_lower.proofs.Heads.{arguments_within, variables_are}
 use Rattle.mm_lower.proofs.head.variables.Goals as goal

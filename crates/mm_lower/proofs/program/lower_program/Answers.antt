@@ -1,4 +1,3 @@
-use Rattle.std.proofs.Common.{◌≡◌}
 use Rattle.mm_c.specs.View.{program_view}
 use Rattle.mm_lower.specs.Scopes.{program_of}
 use Rattle.mm_lower.proofs.Translated.{writable, main_inside, all_items, is_lowered, does_translate, is_well_formed}

@@ -1,4 +1,4 @@
-use Rattle.std.proofs.Common.{rules, suc, ◌+◌, ◌≡◌, ap, ◌∙◌, arith}
+use Rattle.std.proofs.Common.{arith}
 use Rattle.mm_c.specs.View.{code_view}
 use Rattle.mm_lower.proofs.Stmts.{start, item, item_depth, next, end}
 use Rattle.mm_lower.proofs.stmt.+stmt.Goals as goal

@@ -1,4 +1,4 @@
-use Rattle.std.proofs.Common.{suc, ◌+◌}
+use Rattle.std.proofs.Common.{suc}
 use Rattle.std.specs.Prelude.{max}
 use Rattle.mm_core.specs.View.{stmt_view, stmts_view}
 use Rattle.mm_c.specs.View.{code_view}

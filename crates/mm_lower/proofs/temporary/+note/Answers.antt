@@ -1,4 +1,4 @@
-use Rattle.std.proofs.Common.{rules, suc, ◌+◌, ◌≡◌, ap, ◌∙◌, arith}
+use Rattle.std.proofs.Common.{arith}
 use Rattle.mm_lower.proofs.Noting.{start, item_depth, next, end}
 use Rattle.mm_lower.proofs.temporary.+note.Goals as goal
 
