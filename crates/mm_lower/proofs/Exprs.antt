@@ -1,61 +1,72 @@
--- The code of an expression gives its value.
-use Rattle.std.proofs.Common.{◌≡◌, ◌≢◌, ℕ, suc, ◌<◌, ◌^◌, List, [], ◌∷◌, map, refl, ap, ◌∙◌, subst, arith}
-use Rattle.std.specs.Prelude.{ℤ, pos, negsuc, Bool, true, false, IsTrue, if◌then◌else◌, ◌==◌}
-use Rattle.mm_base.specs.Num.{is_int}
-use Rattle.mm_meaning.specs.Run as runs
-use Rattle.mm_meaning.specs.Run.{Run, Gives, Stops, then}
-use Rattle.mm_core.specs.Tree.{Exprs}
-use Rattle.mm_core.specs.State.{Value, Store}
-use Rattle.mm_core.specs.Valid.{ValueType, int_type}
-use Rattle.mm_core.specs.Meaning as source
-use Rattle.mm_core.specs.Meaning.{Calls, number_of, numbers_of, operate, ask, outside, value_of, values_of}
-use Rattle.mm_c.specs.declared.tree.COperator.TheVariants as by
-use Rattle.mm_c.specs.Memory as memory
-use Rattle.mm_c.specs.CMeaning as c
-use Rattle.mm_c.specs.CMeaning.{Flow, Next, with_name, flows_of, flow_in, atom_of, bit_of}
-use Rattle.mm_c.specs.Tree as tree
-use Rattle.mm_c.specs.Tree.{Code, done, do_then, ◌⨾◌, just, name, number}
-use Rattle.mm_agree.specs.Agree.{Agree, Fits, AllFit, in_c, States}
-use Rattle.mm_agree.proofs.Steps.{flows-⨾, SameWorld}
-use Rattle.mm_lower.specs.Lowered.{local, greatest, block_of, right_of, values_from}
-use Rattle.mm_lower.proofs.Names.{written, kept}
-use Rattle.mm_lower.proofs.Ints.{negated}
+-- The code of arguments, one after another.
+use Rattle.std.proofs.Common.{◌≡◌, ℕ, suc, ◌+◌, ◌^◌, ◌<◌, ◌≤◌, List, [], ◌∷◌, ◌++◌, length, get_or, drop, refl, sym, ap, ◌∙◌, append_assoc, subst, arith}
+use Rattle.std.proofs.Math.Seq.{drop-cons}
+use Rattle.std.proofs.lemmas.List.{append-nil, drop_all}
+use Rattle.mm_classes.specs.declared.class.Ty.{Ty}
+use Rattle.mm_core.specs.declared.tree.CoreExpr.{CoreExpr}
+use Rattle.mm_core.specs.View.{expr_view, exprs_view}
+use Rattle.mm_c.specs.declared.tree.CAtom.{CAtom}
+use Rattle.mm_c.specs.declared.tree.CAtom.TheVariants.{Name}
+use Rattle.mm_c.specs.Tree.{Code, ◌⨾◌}
+use Rattle.mm_c.proofs.Views.{⨾-assoc, ⨾-done}
+use Rattle.mm_simulate.specs.Lowered.{of_, reach, reach_all}
+use Rattle.mm_lower.specs.declared.scope.Scope.{Scope}
+use Rattle.mm_lower.specs.Scopes.{type_in, code_in, all_in, atoms_in, IsIn, AreIn}
+use Rattle.mm_lower.proofs.Sizes.{depth, depth_all}
 
--- The local t holds the value, where its type has one, and the locals below t hold what they held in `old`.
-pub record Holds (t : ℕ) (old : c.Names) (type : ValueType) (v : Value) (s : Store) (u : c.Store) : Type 0 where
-  pub value : type ≡ int_type → u.names (local t) ≡ in_c v
-  pub fits : Fits type v
-  pub kept : (x : ℕ) → x < t → u.names (local x) ≡ old (local x)
-  pub states : States s.state u.state
+-- the first i are done, and at is free
+pub record SoFar (s : Scope) (t : ℕ) (old : Code) (es : List CoreExpr) (i at : ℕ) (xs : Code) (ys : List CAtom) : Type 0 where
+  pub code : xs ⨾ all_in s at (exprs_view (drop i es)) ≡ old ⨾ all_in s t (exprs_view es)
+  pub atoms : ys ++ atoms_in s at (exprs_view (drop i es)) ≡ atoms_in s t (exprs_view es)
+  pub lowered : AreIn s (exprs_view (drop i es))
+  pub few : at + reach_all (exprs_view (drop i es)) ≤ t + reach_all (exprs_view es)
+  pub shallow : depth_all (exprs_view (drop i es)) ≤ depth_all (exprs_view es)
 
-abbrev pub AllInts : List ValueType → Type 0
-AllInts [] = Unit {0}
-AllInts (type ∷ types) = (type ≡ int_type) × AllInts types
+pub start : (s : Scope) (t : ℕ) (old : Code) (es : List CoreExpr) → AreIn s (exprs_view es) → SoFar s t old es 0 t old []
+start s t old es low = record { code = refl; atoms = refl; lowered = low; few = omega arith; shallow = omega arith }
 
-pub record HoldsAll (t : ℕ) (old : c.Names) (es : Exprs) (types : List ValueType) (vs : List Value) (s : Store) (u : c.Store) : Type 0 where
-  pub values : AllInts types → map (atom_of u.names) (values_from t es) ≡ map in_c vs
-  pub fits : AllFit types vs
-  pub kept : (x : ℕ) → x < t → u.names (local x) ≡ old (local x)
-  pub states : States s.state u.state
+module _ (s : Scope) (t : ℕ) (old : Code) (es : List CoreExpr) (i at : ℕ) (e : CoreExpr) (code : Code) (atoms : List CAtom) (is : e ≡ get_or es i e) (low : i < length es) (so : SoFar s t old es i at code atoms) where
+  split : drop i es ≡ e ∷ drop (suc i) es
+  split = drop-cons es i e low ∙ ap (λ x. x ∷ drop (suc i) es) (sym is)
 
--- a value put into t
-pub holds_written : (t : ℕ) (old : c.Names) (type : ValueType) (v : Value) (s : Store) (u : c.Store) → t < 2 ^ 32 → Fits type v → ((x : ℕ) → x < t → u.names (local x) ≡ old (local x)) → States s.state u.state → Holds t old type v s (record { names = with_name u.names (local t) (in_c v); state = u.state })
-holds_written t old type v s u low fits same h = record {
-  value = λ is. written u.names t (in_c v);
-  fits = fits;
-  kept = λ x below. let ne : x ≢ t = omega arith in let lx : x < 2 ^ 32 = omega arith in kept u.names t (in_c v) x low lx ne ∙ same x below;
-  states = h;
-}
+  item_lowered : AreIn s (exprs_view (e ∷ drop (suc i) es))
+  item_lowered = subst (λ l. AreIn s (exprs_view l)) split so.lowered
 
-module _ (calls : c.Calls) (arrays : c.Arrays) where
-  -- a branch, which is code like any other
-  pub in_block : {A : Type 0} (Post : A → Store → Flow → c.Store → Type 0) (x : Run source.Stop Store A) (code ys : Code) (u : c.Store) (k : ℕ) → Agree SameWorld Post x (flows_of calls arrays (code ⨾ ys) u k) → Agree SameWorld Post x ((then) (flow_in calls arrays (block_of code) u k) (λ flow. c.unless_left flow (flows_of calls arrays ys)))
-  in_block Post x code ys u k h = subst (λ r. Agree SameWorld Post x r) (flows-⨾ calls arrays code ys u k) h
+  item_few : at + reach_all (exprs_view (e ∷ drop (suc i) es)) ≤ t + reach_all (exprs_view es)
+  item_few = subst (λ l. at + reach_all (exprs_view l) ≤ t + reach_all (exprs_view es)) split so.few
 
-  negative_gives : (b : Bool) (n : ℕ) (u : c.Store) (k : ℕ) → (n == greatest) ≡ b → IsTrue (is_int (negsuc n)) → c.right_of calls arrays (if b then tree.copy tree.least else tree.binary (number 0) by.Subtract (number (suc n))) u k ≡ Gives (memory.Int (negsuc n)) u k
-  negative_gives true n u k e h = ap (λ m. Gives (memory.Int (negsuc m)) u k) (let same : 2147483647 ≡ n = grind arith in same)
-  negative_gives false n u k e h = rw (negated n) (ap (λ (b : Bool). (if b then runs.pure (memory.Int (negsuc n)) else c.stuck) u k) h)
+  item_shallow : depth_all (exprs_view (e ∷ drop (suc i) es)) ≤ depth_all (exprs_view es)
+  item_shallow = subst (λ l. depth_all (exprs_view l) ≤ depth_all (exprs_view es)) split so.shallow
 
-  pub right_gives : (z : ℤ) (u : c.Store) (k : ℕ) → IsTrue (is_int z) → c.right_of calls arrays (right_of z) u k ≡ Gives (memory.Int z) u k
-  right_gives (pos n) u k h = refl
-  right_gives (negsuc n) u k h = negative_gives (n == greatest) n u k refl h
+  pub item_depth : depth (expr_view e) < depth_all (exprs_view es)
+  item_depth = let h = item_shallow in omega (arith, h)
+
+  pub item : t + reach_all (exprs_view es) < 2 ^ 32 → IsIn s (expr_view e) × (at + reach (expr_view e) < 2 ^ 32)
+  item few = (item_lowered.0, let h = item_few in omega (arith, h, few))
+
+  pub next_few : t + reach_all (exprs_view es) < 2 ^ 32 → at + 1 < 2 ^ 32
+  next_few few = let h = item_few in omega (arith, h, few)
+
+  pub next : (code' : Code) → code' ≡ code ⨾ code_in s at (expr_view e) → SoFar s t old es (suc i) (at + 1) code' (atoms ++ Name (of_ (type_in s (expr_view e)) at) ∷ [])
+  next code' more =
+      let one : suc at ≡ at + 1 = omega arith in
+      subst (λ n. SoFar s t old es (suc i) n code' (atoms ++ Name (of_ (type_in s (expr_view e)) at) ∷ [])) one (record {
+        code = ap (λ c. c ⨾ all_in s (suc at) (exprs_view (drop (suc i) es))) more ∙ (⨾-assoc code (code_in s at (expr_view e)) (all_in s (suc at) (exprs_view (drop (suc i) es))) ∙ (ap (λ l. code ⨾ all_in s at (exprs_view l)) (sym split) ∙ so.code));
+        atoms = append_assoc atoms (Name (of_ (type_in s (expr_view e)) at) ∷ []) (atoms_in s (suc at) (exprs_view (drop (suc i) es))) ∙ (ap (λ l. atoms ++ atoms_in s at (exprs_view l)) (sym split) ∙ so.atoms);
+        lowered = item_lowered.1;
+        few = let h = item_few in omega (arith, h);
+        shallow = let h = item_shallow in omega (arith, h);
+      })
+
+  pub next_with : (code' : Code) (ys : List CAtom) (a : CAtom) (type : Ty) → code' ≡ code ⨾ code_in s at (expr_view e) → ys ≡ atoms ++ a ∷ [] → a ≡ Name (of_ type at) → type ≡ type_in s (expr_view e) → SoFar s t old es (i + 1) (at + 1) code' ys
+  next_with code' ys a type more pushed atom typed =
+      let one : suc i ≡ i + 1 = omega arith in
+      let named = pushed ∙ ap (λ x. atoms ++ x ∷ []) (atom ∙ ap (λ u. Name (of_ u at)) typed) in
+      subst (λ l. SoFar s t old es (i + 1) (at + 1) code' l) (sym named) (subst (λ n. SoFar s t old es n (at + 1) code' (atoms ++ Name (of_ (type_in s (expr_view e)) at) ∷ [])) one (next code' more))
+
+module _ (s : Scope) (t : ℕ) (old : Code) (es : List CoreExpr) (i at : ℕ) (code : Code) (atoms : List CAtom) (past : length es ≤ i) (so : SoFar s t old es i at code atoms) where
+  pub end_code : code ≡ old ⨾ all_in s t (exprs_view es)
+  end_code = sym (⨾-done code) ∙ (ap (λ l. code ⨾ all_in s at (exprs_view l)) (sym (drop_all i es past)) ∙ so.code)
+
+  pub end_atoms : atoms ≡ atoms_in s t (exprs_view es)
+  end_atoms = sym (append-nil atoms) ∙ (ap (λ l. atoms ++ atoms_in s at (exprs_view l)) (sym (drop_all i es past)) ∙ so.atoms)

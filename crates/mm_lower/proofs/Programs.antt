@@ -1,80 +1,91 @@
--- The program of a `main` runs as it does: for every input and at every bound.
-use Rattle.std.proofs.Common.{◌≡◌, ◌≢◌, ℕ, zero, suc, ◌+◌, ◌≤◌, ◌^◌, List, [], refl, sym, ap, ◌∙◌, arith}
-use Rattle.std.specs.Prelude.{ℤ, pos, codes, Option, Some}
-use Rattle.mm_meaning.specs.Run.{Run, Gives, then}
-use Rattle.mm_core.specs.Tree.{Stmts, Function, program_of}
-use Rattle.mm_core.specs.State.{Value, Number, Nothing, State, Store}
-use Rattle.mm_core.specs.Valid.{int_type, AreValidStmts}
-use Rattle.mm_core.specs.Meaning as source
-use Rattle.mm_core.specs.Meaning.{Trapped, Spent, Flow, Next, Returned, flows_of, number_of, start}
-use Rattle.mm_core.specs.Run as by
-use Rattle.mm_core.specs.Run.{source_run}
-use Rattle.mm_c.specs.Memory as memory
-use Rattle.mm_c.specs.CMeaning as c
-use Rattle.mm_c.specs.CRun as run
-use Rattle.mm_c.specs.CRun.{c_run}
-use Rattle.mm_c.specs.Tree as tree
-use Rattle.mm_c.specs.Tree.{Code, just}
-use Rattle.mm_agree.specs.Agree.{stop_in_c, Agree, both_give, both_stop, Fits, in_c, IsInput, States, Alike}
-use Rattle.mm_agree.specs.Translates.{finish_in_c, outcome_in_c, Translates}
-use Rattle.mm_agree.proofs.Steps.{SameWorld, flows-⨾}
-use Rattle.mm_lower.specs.Lowered.{locals_from, lowered_stmts, lowered_main, lowered_program, reach_stmts}
-use Rattle.mm_lower.proofs.Stmts.{Did, stmts_agree}
+-- The functions of a program, one after another.
+use Rattle.std.proofs.Common.{◌≡◌, ℕ, suc, ◌+◌, ◌<◌, ◌≤◌, List, [], ◌∷◌, ◌++◌, length, get_or, drop, map, refl, sym, ap, ◌∙◌, subst, arith, append_assoc}
+use Rattle.std.specs.Prelude.{Bool, true, false, nat_eq, Option, Some, None, slice_get, option_map}
+use Rattle.std.proofs.Math.Seq.{drop-cons}
+use Rattle.std.proofs.lemmas.List.{append-nil, drop_all}
+use Rattle.std.proofs.lemmas.Option.{slice_get-map, slice_get_read}
+use Rattle.mm_core.specs.declared.tree.CoreFn.{CoreFn}
+use Rattle.mm_core.specs.declared.tree.CoreStmt.{CoreStmt}
+use Rattle.mm_core.specs.Tree.{Stmt, Function}
+use Rattle.mm_core.specs.Run.{number_of_main}
+use Rattle.mm_core.specs.View.{function_view, body_view, stmt_view}
+use Rattle.mm_c.specs.Tree as c
+use Rattle.mm_simulate.specs.Lowered.{Defined, with_body, others_from, others, entry_at, entry}
+use Rattle.mm_lower.specs.Scopes.{program_of}
+use Rattle.mm_lower.specs.Written.{IsWritable, AreWritable, other_at}
 
-abbrev main_of : Stmts → Function
-main_of ss = record { name = codes "main"; body = ss }
+abbrev pub defined_in : ℕ → CoreFn → CoreStmt → Defined
+defined_in n f b = record { number = n; function = function_view f; body = stmt_view b }
 
-abbrev ending : Code
-ending = just (tree.return (tree.number 0))
+module _ (g : Defined → c.Item) (fs : List CoreFn) (old : List c.Item) where
+  abbrev m : ℕ
+  m = number_of_main (map function_view fs)
 
-module _ (ss : Stmts) (old : c.Names) (calls : c.Calls) (arrays : c.Arrays) where
-  -- the end of the body of `main`
-  ends : (flow : Flow) (s : Store) (flow' : c.Flow) (u : c.Store) (k : ℕ) → Did 0 old flow s flow' u → Alike int_type (source.result_of (main_of ss) (Gives flow s k)) (c.result_of (c.unless_left flow' (c.flows_of calls arrays ending) u k))
-  ends Next s flow' u k p = rw p.on (both_give (record { value = refl; fits = refl; states = p.states }))
-  ends (Returned v) s flow' u k p = rw p.on (both_give (record { value = refl; fits = p.may_be; states = p.states }))
+  -- the first i are done
+  pub record SoFar (i number : ℕ) (items : List c.Item) : Type 0 where
+    pub at : number ≡ i
+    pub all : items ++ map g (others_from m i (map function_view (drop i fs))) ≡ old ++ map g (others (program_of fs))
 
-  body_ends : (x : Run source.Stop Store Flow) (y : Run c.Stop c.Store c.Flow) → Agree SameWorld (Did 0 old) x y → Alike int_type (source.result_of (main_of ss) x) (c.result_of ((then) y (λ flow. c.unless_left flow (c.flows_of calls arrays ending))))
-  body_ends _ _ (both_give p) = ends _ _ _ _ _ p
-  body_ends _ _ (both_stop e) = both_stop e
+  pub start : SoFar 0 0 old
+  start = record { at = refl; all = refl }
 
-module _ (ss : Stmts) (valid : AreValidStmts ss) (small : reach_stmts ss ≤ 2 ^ 32) where
-  -- `main`, whatever it calls
-  pub main_agrees : (calls : source.Calls) (calls' : c.Calls) (arrays : c.Arrays) (s : State) (u : c.State) (k : ℕ) → States s u → Alike int_type (source.enter calls (main_of ss) [] s k) (c.enter calls' arrays (lowered_main ss) u k)
-  main_agrees calls calls' arrays s u k h =
-      let s0 : Store = record { locals = start []; state = s } in
-      let u0 : c.Store = record { names = c.zeroed (locals_from 0 (reach_stmts ss)) (λ x. memory.Int (pos 0)); state = u } in
-      let low : 0 + reach_stmts ss ≤ 2 ^ 32 = omega arith in
-      rw (flows-⨾ calls' arrays (lowered_stmts 0 ss) ending u0 k)
-      (body_ends ss u0.names calls' arrays _ _ (stmts_agree calls calls' arrays ss 0 s0 u0 k valid low h))
+  pub end : (i number : ℕ) (items : List c.Item) → length fs ≤ i → SoFar i number items → items ≡ old ++ map g (others (program_of fs))
+  end i number items past so = sym (append-nil items) ∙ (ap (λ l. items ++ map g (others_from m i (map function_view l))) (sym (drop_all i fs past)) ∙ so.all)
 
-  pub runs_agree : (n : ℕ) (s : State) (u : c.State) (k : ℕ) → States s u → Alike int_type (source.call_of (program_of ss) n 0 [] s k) (c.call_of (lowered_program ss) n (codes "main") [] u k)
-  runs_agree zero s u k h = both_stop h.world
-  runs_agree (suc n) s u zero h = both_stop h.world
-  runs_agree (suc n) s u (suc k) h = main_agrees (source.call_of (program_of ss) n) (c.call_of (lowered_program ss) n) c.no_arrays s u k h
+  module _ (i number : ℕ) (f : CoreFn) (items : List c.Item) (is : f ≡ get_or fs i f) (low : i < length fs) (so : SoFar i number items) where
+    split : drop i fs ≡ f ∷ drop (suc i) fs
+    split = drop-cons fs i f low ∙ ap (λ x. x ∷ drop (suc i) fs) (sym is)
 
-  ended_same : (v : Value) → Fits int_type v → run.ended_by (Some (in_c v)) ≡ run.Ended (number_of v)
-  ended_same (Number z) f = refl
-  ended_same Nothing f = absurd f
+    abbrev rest : List Defined
+    rest = others_from m (suc i) (map function_view (drop (suc i) fs))
 
-  stopped_same : (x : source.Stop) → run.stopped_by (stop_in_c x) ≡ finish_in_c (by.stopped_by x)
-  stopped_same (Trapped t) = refl
-  stopped_same Spent = refl
+    next_by : (items' : List c.Item) (ds : List Defined) → others_from m i (map function_view (f ∷ drop (suc i) fs)) ≡ ds → items' ++ map g rest ≡ items ++ map g ds → SoFar (i + 1) (number + 1) items'
+    next_by items' ds e h =
+        let one : suc i ≡ i + 1 = omega arith in
+        subst (λ n. SoFar n (number + 1) items') one (record {
+          at = let z = so.at in omega (arith, z);
+          all = h ∙ (ap (λ l. items ++ map g l) (sym e) ∙ (ap (λ l. items ++ map g (others_from m i (map function_view l))) (sym split) ∙ so.all));
+        })
 
-  outcome_same : (x : Run source.Stop State Value) (y : Run c.Stop c.State (Option memory.Value)) → Alike int_type x y → run.outcome_of y ≡ outcome_in_c (by.outcome_of x)
-  outcome_same _ _ (both_give {a = v} {s = s} {b = r} {t = u} p) = rw (p.value, ended_same v p.fits, ← p.states.world) refl
-  outcome_same _ _ (both_stop {x = x} {s = s} {t = u} e) = rw (stopped_same x, ← e) refl
+    with_rest : (n : ℕ) (h : Function) (o : Option Stmt) (ds : List Defined) → with_body n h o ds ≡ with_body n h o [] ++ ds
+    with_rest n h None ds = refl
+    with_rest n h (Some b) ds = refl
 
-  agrees : (input : List ℤ) (n : ℕ) → IsInput input → c_run (lowered_program ss) input n ≡ outcome_in_c (source_run (program_of ss) input n)
-  agrees input n ints = outcome_same _ _ (runs_agree n (by.starting input) (run.starting input) n (record { world = refl; input = ints }))
+    other_rest : others_from m i (map function_view (f ∷ drop (suc i) fs)) ≡ other_at (program_of fs) i (function_view f) ++ rest
+    other_rest = by (nat_eq i m)
+      where
+        by : (b : Bool) → elim b as (λ (z : Bool). List Defined) [ true ↦ rest | false ↦ with_body i (function_view f) (body_view f.body) rest ] ≡ elim b as (λ (z : Bool). List Defined) [ true ↦ [] | false ↦ with_body i (function_view f) (body_view f.body) [] ] ++ rest
+        by true = refl
+        by false = with_rest i (function_view f) (body_view f.body) rest
 
-  no_end_is_stuck : (f : by.Finish) → finish_in_c f ≢ run.IsStuck
-  no_end_is_stuck (by.Ended z) = λ e. cc
-  no_end_is_stuck (by.TrappedBy k) = λ e. cc
-  no_end_is_stuck by.GoesOn = λ e. cc
+    map_two : (xs ys : List Defined) → map g (xs ++ ys) ≡ map g xs ++ map g ys
+    map_two [] ys = refl
+    map_two (x ∷ xs) ys = ap (λ l. g x ∷ l) (map_two xs ys)
 
-  -- the theorem
-  pub translates : Translates (program_of ss) (lowered_program ss)
-  translates = record {
-    agrees = agrees;
-    never_stuck = λ input n ints e. no_end_is_stuck (source_run (program_of ss) input n).finish (ap (λ (o : run.Outcome). o.finish) (sym (agrees input n ints)) ∙ e);
-  }
+    pub next : (items' : List c.Item) → items' ≡ items ++ map g (other_at (program_of fs) number (function_view f)) → SoFar (i + 1) (number + 1) items'
+    next items' more = next_by items' (other_at (program_of fs) i (function_view f) ++ rest) other_rest
+        (ap (λ l. l ++ map g rest) (more ∙ ap (λ n. items ++ map g (other_at (program_of fs) n (function_view f))) so.at)
+        ∙ append_assoc items (map g (other_at (program_of fs) i (function_view f))) (map g rest)
+        ∙ ap (λ l. items ++ l) (sym (map_two (other_at (program_of fs) i (function_view f)) rest)))
+
+    pub there : slice_get fs number ≡ Some f
+    there = subst (λ n. slice_get fs n ≡ Some f) (sym so.at) (slice_get_read fs (length fs) i f refl low is)
+
+pub item_at : (fs : List CoreFn) (i : ℕ) (f : CoreFn) → i < length fs → f ≡ get_or fs i f → slice_get fs i ≡ Some f
+item_at fs i f low is = slice_get_read fs (length fs) i f refl low is
+
+-- ---- `main`
+
+module _ (fs : List CoreFn) where
+  abbrev at_main : ℕ
+  at_main = number_of_main (map function_view fs)
+
+  pub viewed_at : (i : ℕ) (f : CoreFn) → slice_get fs i ≡ Some f → slice_get (map function_view fs) i ≡ Some (function_view f)
+  viewed_at i f e = slice_get-map function_view fs i ∙ ap (option_map function_view) e
+
+  pub entry_is : (g : Defined → c.Item) (old items : List c.Item) (i : ℕ) (f : CoreFn) → i ≡ at_main → slice_get fs i ≡ Some f → items ≡ old ++ map g (with_body i (function_view f) (body_view f.body) []) → items ≡ old ++ map g (entry (program_of fs))
+  entry_is g old items i f same e more = more ∙ ap (λ ds. old ++ map g ds) (ap (λ n. with_body n (function_view f) (body_view f.body) []) same ∙ sym (ap (entry_at at_main) (subst (λ n. slice_get (map function_view fs) n ≡ Some (function_view f)) same (viewed_at i f e))))
+
+  -- what is written of a function of the program
+  pub writable_at : (i : ℕ) (f : CoreFn) (b : CoreStmt) → AreWritable (program_of fs) → slice_get fs i ≡ Some f → f.body ≡ Some b → IsWritable (program_of fs) (function_view f) (stmt_view b)
+  writable_at i f b all e h = all i (function_view f) (stmt_view b) (viewed_at i f e) (ap body_view h)

@@ -1,61 +1,102 @@
--- The code of a statement goes on as the statement does.
-use Rattle.std.proofs.Common.{◌≡◌, ℕ, ◌+◌, ◌<◌, ◌≤◌, ◌^◌, refl, ap, ◌∙◌, arith}
-use Rattle.mm_core.specs.Tree.{Expr, Stmt, block, run, return, Stmts, no_stmts, stmt_and}
-use Rattle.mm_core.specs.State.{Store}
-use Rattle.mm_core.specs.Valid.{int_type, IsValidStmt, AreValidStmts}
-use Rattle.mm_core.specs.Meaning.{Calls, Flow, Next, Returned, flow_of, flows_of, unless_left}
-use Rattle.mm_c.specs.CMeaning as c
-use Rattle.mm_agree.specs.Agree.{Agree, both_give, Fits, in_c, States}
-use Rattle.mm_agree.proofs.Steps.{SameWorld, flows-⨾, after, agree_then, agree_weaken, agree_map}
-use Rattle.mm_lower.specs.Lowered.{local, lowered, lowered_stmt, lowered_stmts, reach_stmt, reach_stmts}
-use Rattle.mm_lower.proofs.Nodes.{expr_agrees}
+-- The code of statements, one after another, and of the steps of loops.
+use Rattle.std.proofs.Common.{◌≡◌, ℕ, suc, ◌+◌, ◌^◌, ◌<◌, ◌≤◌, List, ◌∷◌, length, get_or, drop, refl, sym, ap, ◌∙◌, subst, arith}
+use Rattle.std.specs.Prelude.{Bool, if◌then◌else◌}
+use Rattle.std.proofs.Math.Seq.{drop-cons}
+use Rattle.std.proofs.lemmas.List.{drop_all}
+use Rattle.mm_core.specs.declared.tree.CoreStmt.{CoreStmt}
+use Rattle.mm_core.specs.Tree.{Stmt, block, run, if_else, while_do, do_while, for_do, break, continue, return_nothing, return, make, no_stmts, stmt_and}
+use Rattle.mm_core.specs.View.{stmt_view, stmts_view}
+use Rattle.mm_c.specs.Tree.{Code, done, forever, just, ◌⨾◌}
+use Rattle.mm_c.proofs.Views.{⨾-assoc, ⨾-done}
+use Rattle.mm_simulate.specs.Lowered.{reach_stmt, reach_stmts, block_of, flagged, step_in, looped}
+use Rattle.mm_lower.specs.declared.scope.Scope.{Scope}
+use Rattle.mm_lower.specs.Scopes.{stmt_in, stmts_in, StmtIsIn, StmtsAreIn}
+use Rattle.mm_lower.specs.Steps.{is_nothing, is_run}
+use Rattle.mm_lower.proofs.Sizes.{depth_stmt, depth_stmts}
 
--- the same way on
-abbrev pub flow_in_c : Flow → c.Flow
-flow_in_c Next = c.Next
-flow_in_c (Returned v) = c.Returned (in_c v)
+-- the first i are done
+pub record SoFar (s : Scope) (t : ℕ) (old : Code) (ss : List CoreStmt) (i : ℕ) (xs : Code) : Type 0 where
+  pub code : xs ⨾ stmts_in s t (stmts_view (drop i ss)) ≡ old ⨾ stmts_in s t (stmts_view ss)
+  pub lowered : StmtsAreIn s (stmts_view (drop i ss))
+  pub few : reach_stmts (stmts_view (drop i ss)) ≤ reach_stmts (stmts_view ss)
+  pub shallow : depth_stmts (stmts_view (drop i ss)) ≤ depth_stmts (stmts_view ss)
 
--- what is returned is an `int`
-abbrev pub MayBe : Flow → Type 0
-MayBe Next = Unit {0}
-MayBe (Returned v) = Fits int_type v
+pub start : (s : Scope) (t : ℕ) (old : Code) (ss : List CoreStmt) → StmtsAreIn s (stmts_view ss) → SoFar s t old ss 0 old
+start s t old ss low = record { code = refl; lowered = low; few = omega arith; shallow = omega arith }
 
--- The same way on, where the locals below t hold what they held in `old`.
-pub record Did (t : ℕ) (old : c.Names) (flow : Flow) (s : Store) (flow' : c.Flow) (u : c.Store) : Type 0 where
-  pub on : flow' ≡ flow_in_c flow
-  pub may_be : MayBe flow
-  pub kept : (x : ℕ) → x < t → u.names (local x) ≡ old (local x)
-  pub states : States s.state u.state
+module _ (s : Scope) (t : ℕ) (old : Code) (ss : List CoreStmt) (i : ℕ) (x : CoreStmt) (code : Code) (is : x ≡ get_or ss i x) (low : i < length ss) (so : SoFar s t old ss i code) where
+  split : drop i ss ≡ x ∷ drop (suc i) ss
+  split = drop-cons ss i x low ∙ ap (λ y. y ∷ drop (suc i) ss) (sym is)
 
-module _ (calls : Calls) (calls' : c.Calls) (arrays : c.Arrays) where
-  abbrev Claim : Stmt → Type 0
-  Claim st = (t : ℕ) (s : Store) (u : c.Store) (k : ℕ) → IsValidStmt st → t + reach_stmt st ≤ 2 ^ 32 → States s.state u.state → Agree SameWorld (Did t u.names) (flow_of calls st s k) (c.flows_of calls' arrays (lowered_stmt t st) u k)
+  item_lowered : StmtsAreIn s (stmts_view (x ∷ drop (suc i) ss))
+  item_lowered = subst (λ l. StmtsAreIn s (stmts_view l)) split so.lowered
 
-  abbrev ClaimAll : Stmts → Type 0
-  ClaimAll ss = (t : ℕ) (s : Store) (u : c.Store) (k : ℕ) → AreValidStmts ss → t + reach_stmts ss ≤ 2 ^ 32 → States s.state u.state → Agree SameWorld (Did t u.names) (flows_of calls ss s k) (c.flows_of calls' arrays (lowered_stmts t ss) u k)
+  item_few : reach_stmts (stmts_view (x ∷ drop (suc i) ss)) ≤ reach_stmts (stmts_view ss)
+  item_few = subst (λ l. reach_stmts (stmts_view l) ≤ reach_stmts (stmts_view ss)) split so.few
 
-  run_agrees : (e : Expr) → Claim (run e)
-  run_agrees e t s u k valid low h = agree_map (λ v. Next) (expr_agrees calls calls' arrays e t s u k valid low h) (λ v s1 flow u1 p. record { on = p.0; may_be = tt; kept = p.1.kept; states = p.1.states })
+  item_shallow : depth_stmts (stmts_view (x ∷ drop (suc i) ss)) ≤ depth_stmts (stmts_view ss)
+  item_shallow = subst (λ l. depth_stmts (stmts_view l) ≤ depth_stmts (stmts_view ss)) split so.shallow
 
-  return_agrees : (e : Expr) → Claim (return e)
-  return_agrees e t s u k valid low h = after calls' arrays (lowered t e) _ _ _ _ _ u k (expr_agrees calls calls' arrays e t s u k valid.1 low h) (λ v s1 u1 k1 p. both_give (record { on = ap c.Returned (p.value valid.0); may_be = rw (← valid.0) p.fits; kept = p.kept; states = p.states }))
+  pub item_depth : depth_stmt (stmt_view x) < depth_stmts (stmts_view ss)
+  item_depth = let h = item_shallow in omega (arith, h)
 
-  goes_on : (t : ℕ) (old : c.Names) (ss : Stmts) (flow : Flow) (s : Store) (flow' : c.Flow) (u : c.Store) (k : ℕ) → ClaimAll ss → AreValidStmts ss → t + reach_stmts ss ≤ 2 ^ 32 → Did t old flow s flow' u → Agree SameWorld (Did t old) (unless_left flow (flows_of calls ss) s k) (c.unless_left flow' (c.flows_of calls' arrays (lowered_stmts t ss)) u k)
-  goes_on t old ss Next s flow' u k ih valid low p = rw p.on (agree_weaken (ih t s u k valid low p.states) (λ flow s1 flow1 u1 q. record { on = q.on; may_be = q.may_be; kept = λ x below. q.kept x below ∙ p.kept x below; states = q.states }))
-  goes_on t old ss (Returned v) s flow' u k ih valid low p = rw p.on (both_give (record { on = refl; may_be = p.may_be; kept = p.kept; states = p.states }))
+  pub item : t + reach_stmts (stmts_view ss) < 2 ^ 32 → StmtIsIn s (stmt_view x) × (t + reach_stmt (stmt_view x) < 2 ^ 32)
+  item few = (item_lowered.0, let h = item_few in omega (arith, h, few))
 
-  and_agrees : (st : Stmt) (ss : Stmts) → Claim st → ClaimAll ss → ClaimAll (stmt_and st ss)
-  and_agrees st ss ih ihs t s u k valid low h =
-      let low_st : t + reach_stmt st ≤ 2 ^ 32 = omega arith in
-      let low_ss : t + reach_stmts ss ≤ 2 ^ 32 = omega arith in
-      rw (flows-⨾ calls' arrays (lowered_stmt t st) (lowered_stmts t ss) u k) (agree_then (ih t s u k valid.0 low_st h) (λ flow s1 flow' u1 k1 p. goes_on t u.names ss flow s1 flow' u1 k1 ihs valid.1 low_ss p))
+  pub next : (code' : Code) → code' ≡ code ⨾ stmt_in s t (stmt_view x) → SoFar s t old ss (i + 1) code'
+  next code' more =
+      let one : suc i ≡ i + 1 = omega arith in
+      subst (λ n. SoFar s t old ss n code') one (record {
+        code = ap (λ c. c ⨾ stmts_in s t (stmts_view (drop (suc i) ss))) more ∙ (⨾-assoc code (stmt_in s t (stmt_view x)) (stmts_in s t (stmts_view (drop (suc i) ss))) ∙ (ap (λ l. code ⨾ stmts_in s t (stmts_view l)) (sym split) ∙ so.code));
+        lowered = item_lowered.1;
+        few = let h = item_few in omega (arith, h);
+        shallow = let h = item_shallow in omega (arith, h);
+      })
 
-  mutual
-    pub stmt_agrees : (st : Stmt) → Claim st
-    stmt_agrees (block ss) = stmts_agree ss
-    stmt_agrees (run e) = run_agrees e
-    stmt_agrees (return e) = return_agrees e
+pub end : (s : Scope) (t : ℕ) (old : Code) (ss : List CoreStmt) (i : ℕ) (code : Code) → length ss ≤ i → SoFar s t old ss i code → code ≡ old ⨾ stmts_in s t (stmts_view ss)
+end s t old ss i code past so = sym (⨾-done code) ∙ (ap (λ l. code ⨾ stmts_in s t (stmts_view l)) (sym (drop_all i ss past)) ∙ so.code)
 
-    pub stmts_agree : (ss : Stmts) → ClaimAll ss
-    stmts_agree no_stmts = λ t s u k valid low h. both_give (record { on = refl; may_be = tt; kept = λ x below. refl; states = h })
-    stmts_agree (stmt_and st ss) = and_agrees st ss (stmt_agrees st) (stmts_agree ss)
+-- ---- steps
+
+-- a `for` by its step
+pub looped_by : (t : ℕ) (s : Stmt) (step later plain : Code) → looped t s step later plain ≡ (if is_nothing s then just (forever (block_of plain)) else flagged t (step_in t s step) later)
+looped_by t (block no_stmts) step later plain = refl
+looped_by t (block (stmt_and s ss)) step later plain = refl
+looped_by t (run e) step later plain = refl
+looped_by t (if_else e ss ts) step later plain = refl
+looped_by t (while_do e ss) step later plain = refl
+looped_by t (do_while ss e) step later plain = refl
+looped_by t (for_do e s ss) step later plain = refl
+looped_by t break step later plain = refl
+looped_by t continue step later plain = refl
+looped_by t return_nothing step later plain = refl
+looped_by t (return e) step later plain = refl
+looped_by t (make x) step later plain = refl
+
+-- what stands before a step, and then the step
+pub step_before : (t : ℕ) (s : Stmt) (code : Code) → step_in t s done ⨾ code ≡ step_in t s code
+step_before t (block ss) code = refl
+step_before t (run e) code = refl
+step_before t (if_else e ss ts) code = refl
+step_before t (while_do e ss) code = refl
+step_before t (do_while ss e) code = refl
+step_before t (for_do e s ss) code = refl
+step_before t break code = refl
+step_before t continue code = refl
+step_before t return_nothing code = refl
+step_before t (return e) code = refl
+step_before t (make x) code = refl
+
+-- what stands before a step, by whether it is an expression
+pub step_by : (t : ℕ) (s : Stmt) (b : Bool) → b ≡ is_run s → step_in t s done ≡ (if b then done else step_in t (block no_stmts) done)
+step_by t (block ss) b e = rw e refl
+step_by t (run d) b e = rw e refl
+step_by t (if_else d ss ts) b e = rw e refl
+step_by t (while_do d ss) b e = rw e refl
+step_by t (do_while ss d) b e = rw e refl
+step_by t (for_do d s ss) b e = rw e refl
+step_by t break b e = rw e refl
+step_by t continue b e = rw e refl
+step_by t return_nothing b e = rw e refl
+step_by t (return d) b e = rw e refl
+step_by t (make x) b e = rw e refl

@@ -1,2 +1,5 @@
-pub mod Lowered
-pub mod Simulates
+pub mod Named
+pub mod Needed
+pub mod Scopes
+pub mod Steps
+pub mod Written

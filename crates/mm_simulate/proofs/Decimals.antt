@@ -26,7 +26,7 @@ enough (suc k) (suc j) n more low low' = by (nat_eq (n / 10) 0) refl (enough k j
     by true e ih = refl
     by false e ih = ih (grind arith) (grind arith)
 
-one_digit : (n : ℕ) → n < 10 → (48 + n) ∷ [] ≡ numeral n
+pub one_digit : (n : ℕ) → n < 10 → (48 + n) ∷ [] ≡ numeral n
 unfolding numeral
 one_digit n low = by (nat_eq (n / 10) 0) (grind arith)
   where
@@ -37,7 +37,7 @@ one_digit n low = by (nat_eq (n / 10) 0) (grind arith)
     by true e = ap (λ d. d ∷ []) same
     by false e = cc
 
-more_digits : (n : ℕ) (ds : List ℕ) → 10 ≤ n → ds ≡ numeral (n / 10) → ds ++ (48 + n % 10) ∷ [] ≡ numeral n
+pub more_digits : (n : ℕ) (ds : List ℕ) → 10 ≤ n → ds ≡ numeral (n / 10) → ds ++ (48 + n % 10) ∷ [] ≡ numeral n
 unfolding numeral
 more_digits n ds high e = by (nat_eq (n / 10) 0) (grind arith)
   where
