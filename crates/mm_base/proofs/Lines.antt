@@ -1,5 +1,5 @@
 -- The lines of a text, one after another.
-use Rattle.std.proofs.Common.{◌≡◌, ℕ, ℤ, zero, suc, ◌+◌, ◌-◌, ◌<◌, ◌≤◌, Bool, cond, nat_lt, length, List, [], ◌∷◌, ◌++◌, map, take, drop, true, false, nat_eq, get_or, Option, Some, None, refl, sym, ap, ◌∙◌, append_assoc, arith}
+use Rattle.std.proofs.Common.{◌≡◌, ℕ, ℤ, zero, suc, ◌+◌, ◌-◌, ◌<◌, ◌≤◌, Bool, cond, nat_lt, length, List, [], ◌∷◌, ◌++◌, map, take, drop, true, false, get_or, Some, None, refl, sym, ap, ◌∙◌, append_assoc, arith}
 use Rattle.std.specs.List.{All, position, position_or_len}
 use Rattle.std.proofs.lemmas.List.{take_rest, map-append}
 use Rattle.std.proofs.lemmas.List.Elements.{All-push}
@@ -45,8 +45,9 @@ lines_some text n e =
 
 -- one more line that is an `int`
 pub numbers_more : (bytes line rest : List ℕ) (numbers : List ℤ) (n : ℤ) (seen : List (List ℕ)) → lines bytes ≡ seen ++ line ∷ lines rest → All IsIntLine seen → numbers ≡ map line_value seen → IsIntLine line → n ≡ line_value line → (after : List (List ℕ)) × (lines bytes ≡ after ++ lines rest) × All IsIntLine after × (numbers ++ n ∷ [] ≡ map line_value after)
-numbers_more bytes line rest numbers n seen cut each values is value =
-    (seen ++ line ∷ [],
-        cut ∙ sym (append_assoc seen (line ∷ []) (lines rest)),
-        All-push IsIntLine seen line each is,
-        ap (λ ns. ns ++ n ∷ []) values ∙ ap (λ v. map line_value seen ++ v ∷ []) value ∙ sym (map-append line_value seen (line ∷ [])))
+numbers_more bytes line rest numbers n seen cut each values is value = (
+  seen ++ line ∷ [],
+  cut ∙ sym (append_assoc seen (line ∷ []) (lines rest)),
+  All-push IsIntLine seen line each is,
+  ap (λ ns. ns ++ n ∷ []) values ∙ ap (λ v. map line_value seen ++ v ∷ []) value ∙ sym (map-append line_value seen (line ∷ [])),
+)

@@ -1,9 +1,10 @@
 -- What was taken of an input, one piece after another.
-use Rattle.std.proofs.Common.{◌≡◌, ℕ, ◌+◌, ◌≤◌, length, List, [], ◌++◌, take, drop, Option, Some, None, sym, ap, ◌∙◌, append_assoc, arith}
+use Rattle.std.proofs.Common.{◌≡◌, ℕ, ◌+◌, ◌≤◌, length, List, ◌++◌, take, drop, Option, Some, None, sym, ap, ◌∙◌, append_assoc, arith}
 use Rattle.std.proofs.lemmas.List.{length-append, length-take-le, take-append-drop}
 use Rattle.mm_base.specs.declared.outside.TakeEnd.TheVariants.{Took}
 use Rattle.mm_base.specs.Outside.{SourceSeen, Takes, TakesFront}
-use Rattle.mm_base.specs.Input.{FrontTaken, Taken, TakesSome, most_bytes}
+use Rattle.mm_base.specs.declared.limits.TheConstants.{MAX_INPUT_BYTES}
+use Rattle.mm_base.specs.Input.{FrontTaken, Taken, TakesSome}
 
 front_more : (bytes into : List ℕ) (n : ℕ) (a b c : Option (List ℕ)) → FrontTaken bytes a b → TakesFront n b c into → FrontTaken (bytes ++ take n into) a c
 front_more bytes into n None None c h t = t
@@ -28,7 +29,7 @@ taken_more bytes n old a b into into' h t same more =
     }
 
 -- what was taken when the bytes of a piece find no room
-pub takes_more : (bytes : List ℕ) (n : ℕ) (old a b : SourceSeen) (into into' : List ℕ) → Taken bytes old a → Takes (Took n) a b into into' → length into' ≡ length into → a.drawn ≤ b.drawn → length bytes + length into ≤ most_bytes + 1 → TakesSome old b
+pub takes_more : (bytes : List ℕ) (n : ℕ) (old a b : SourceSeen) (into into' : List ℕ) → Taken bytes old a → Takes (Took n) a b into into' → length into' ≡ length into → a.drawn ≤ b.drawn → length bytes + length into ≤ MAX_INPUT_BYTES + 1 → TakesSome old b
 takes_more bytes n old a b into into' h t same more room =
     record {
       bytes = bytes ++ take n into';

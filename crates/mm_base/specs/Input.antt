@@ -1,9 +1,10 @@
 -- The input of a run: lines, each an `int`. (Own.)
-use Rattle.std.specs.Prelude.{◌≡◌, ℕ, ◌+◌, ◌^◌, ◌≤◌, ◌<◌, ℤ, pos, ◌-ℤ◌, Bool, true, false, nat_eq, if◌then◌else◌, List, [], ◌∷◌, ◌++◌, length, map, ⊤, Option, Some, None, IfSome, MatchOption, Vec, Result, Ok, Err}
+use Rattle.std.specs.Prelude.{◌≡◌, ℕ, ◌+◌, ◌≤◌, ◌<◌, ℤ, pos, ◌-ℤ◌, Bool, true, false, nat_eq, if◌then◌else◌, List, [], ◌∷◌, ◌++◌, length, map, ⊤, Option, Some, None, IfSome, Vec, Result, Ok, Err}
 use Rattle.std.specs.List.{All}
 use Rattle.std.specs.Str.Parse.{digits_value}
 use Rattle.mm_base.specs.declared.input.InputEnd.{InputEnd}
 use Rattle.mm_base.specs.declared.input.InputEnd.TheVariants.{BadLine, TooLong, Failed, NoMemory}
+use Rattle.mm_base.specs.declared.limits.TheConstants.{MAX_INPUT_BYTES}
 use Rattle.mm_base.specs.Num.{is_int, IsDecimal}
 use Rattle.mm_base.specs.Outside.{SourceSeen, RoseBy, Rose}
 
@@ -62,18 +63,15 @@ pub record IsFirstBad (bytes : List ℕ) (n : ℕ) : Type 0 where
   pub each : All IsIntLine before
   pub bad : IsIntLine line → ⊥
 
--- What a text says as an input.
-abbrev pub Says : {A : Type 0} → Result (Vec ℤ A) InputEnd → List ℕ → Type 0
-Says (Ok numbers) bytes = AreNumbers bytes numbers.items
-Says (Err (BadLine n)) bytes = IsFirstBad bytes n
-Says (Err TooLong) bytes = ⊥
-Says (Err Failed) bytes = ⊥
-Says (Err NoMemory) bytes = ⊤
+-- What a whole text says as an input, by the answer of its reading.
+abbrev pub ReadsNumbers : {A : Type 0} → Result (Vec ℤ A) InputEnd → List ℕ → Type 0
+ReadsNumbers (Ok numbers) bytes = AreNumbers bytes numbers.items
+ReadsNumbers (Err (BadLine n)) bytes = IsFirstBad bytes n
+ReadsNumbers (Err TooLong) bytes = ⊥
+ReadsNumbers (Err Failed) bytes = ⊥
+ReadsNumbers (Err NoMemory) bytes = ⊤
 
 -- ---- the taking of a whole input
-
-abbrev pub most_bytes : ℕ
-most_bytes = 2 ^ 20
 
 -- these bytes were taken from the front of what was left, where the input tells it
 abbrev pub FrontTaken : List ℕ → Option (List ℕ) → Option (List ℕ) → Type 0
@@ -91,13 +89,13 @@ pub record Taken (bytes : List ℕ) (old new : SourceSeen) : Type 0 where
 -- these bytes were taken, and they are all that was left, where the input tells it
 pub record TakenWhole (bytes : List ℕ) (old new : SourceSeen) : Type 0 where
   pub taken : Taken bytes old new
-  pub within : length bytes ≤ most_bytes
+  pub within : length bytes ≤ MAX_INPUT_BYTES
   pub all : IfSome old.left (λ left. left ≡ bytes)
 
 -- the input is longer than the limit
 pub record IsTooLong (old new : SourceSeen) : Type 0 where
-  pub drawn : RoseBy (most_bytes + 1) old.drawn new.drawn
-  pub longer : IfSome old.left (λ left. most_bytes < length left)
+  pub drawn : RoseBy (MAX_INPUT_BYTES + 1) old.drawn new.drawn
+  pub longer : IfSome old.left (λ left. MAX_INPUT_BYTES < length left)
 
 -- The taking of a whole input, by its answer.
 abbrev pub TakesWhole : {A : Type 0} → Result (Vec ℕ A) InputEnd → SourceSeen → SourceSeen → Type 0
@@ -121,4 +119,4 @@ ReadsInput (Err NoMemory) old new = ⊤
 pub record TakesSome (old new : SourceSeen) : Type 0 where
   pub bytes : List ℕ
   pub taken : Taken bytes old new
-  pub within : length bytes ≤ most_bytes + 1
+  pub within : length bytes ≤ MAX_INPUT_BYTES + 1

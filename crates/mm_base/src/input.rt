@@ -3,7 +3,7 @@
 ghost use Rattle.std.specs.Prelude.{◌≡◌, ◌∷◌, ◌+◌, ◌<◌, ◌≤◌, length};
 ghost use Rattle.std.specs.List.{position};
 ghost use Rattle.std.specs.Option.{SomeIff};
-ghost use Rattle.mm_base.specs.Input.{is_end, lines, line_value, most_bytes, IsIntLine, Says, TakesWhole, TakesSome, ReadsInput};
+ghost use Rattle.mm_base.specs.Input.{is_end, lines, line_value, IsIntLine, ReadsNumbers, TakesWhole, TakesSome, ReadsInput};
 
 use crate::limits::MAX_INPUT_BYTES;
 use crate::num::read_decimal;
@@ -63,7 +63,7 @@ fn first_line(text: &[u8]) -> (&[u8], &[u8])
 
 /// The numbers of an input that was read, or its first bad line.
 pub fn read_numbers(alloc: Global, bytes: &[u8]) -> Result<Vec<i32>, InputEnd>
-    ensures { Says result bytes.now }
+    ensures { ReadsNumbers result bytes.now }
 {
     let mut numbers = Vec::new(alloc);
     let mut rest = bytes;

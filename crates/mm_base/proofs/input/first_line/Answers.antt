@@ -1,4 +1,4 @@
-use Rattle.std.proofs.Common.{◌∙◌, ap, arith}
+use Rattle.std.proofs.Common.{arith}
 use Rattle.mm_base.proofs.Lines.{lines_some, lines_none}
 use Rattle.mm_base.proofs.input.first_line.Goals as goal
 

@@ -1,4 +1,4 @@
-use Rattle.std.proofs.Common.{rules, ◌++◌, ◌∷◌, [], ◌∙◌, ◌≡◌, ap, arith}
+use Rattle.std.proofs.Common.{rules, ◌++◌, ◌∷◌, [], ◌∙◌, ◌≡◌, ap}
 use Rattle.mm_base.proofs.Lines.{numbers_more}
 use Rattle.mm_base.proofs.input.read_numbers.Goals as goal
 

@@ -1,4 +1,4 @@
-use Rattle.std.proofs.Common.{rules, arith}
+use Rattle.std.proofs.Common.{rules}
 use Rattle.mm_base.proofs.Taken.{takes_more}
 use Rattle.mm_base.proofs.input.take_whole.Goals as goal
 
