@@ -3,7 +3,7 @@
 use Rattle.std.specs.Prelude.{◌≡◌, ◌⊎◌, ℕ, ◌&&◌, List, [], ◌∷◌, map, Option, Some, None, slice_get}
 use Rattle.mm_base.specs.declared.place.Place.{Place}
 use Rattle.mm_base.specs.declared.code.TheConstants.Code.{S1, S8, S9, S12}
-use Rattle.mm_classes.specs.Classes.{Class, IsClassList}
+use Rattle.mm_classes.specs.Classes.{Class}
 use Rattle.mm_classes.specs.declared.class.Ty.{Ty}
 use Rattle.mm_classes.specs.declared.class.Ty.TheVariants as ty
 use Rattle.mm_core.specs.Valid.{is_arithmetic, is_number}
@@ -215,4 +215,4 @@ FaultsAs env to e = First (Types env e) (Faults env e) λ x. BecomesNot to e x
 
 -- in each environment each expression is typed in exactly one way, or has exactly one first fault
 abbrev pub OneVerdict : Type 0
-OneVerdict = (env : Environment) → IsClassList env.classes → (e : t.Expr) → ExactlyOne (Types env e) (Faults env e)
+OneVerdict = (env : Environment) (e : t.Expr) → ExactlyOne (Types env e) (Faults env e)
