@@ -1,0 +1,4 @@
+pub mod Calls
+pub mod Chosen
+pub mod Operators
+pub mod Reading
