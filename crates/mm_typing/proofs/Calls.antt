@@ -1,5 +1,5 @@
 -- The checks of names and calls give what their relations say.
-use Rattle.std.proofs.Common.{◌≡◌, ℕ, List, [], ◌∷◌, map, refl, sym, ap, ◌∙◌, inl, inr, ◌⊎◌}
+use Rattle.std.proofs.Common.{◌≡◌, ℕ, List, [], ◌∷◌, map, refl, sym, ap, ◌∙◌, inl, inr}
 use Rattle.std.specs.Prelude.{Option, Some, None, Ok, Err, slice_get, option_map}
 use Rattle.std.proofs.lemmas.Option.{slice_get-map}
 use Rattle.mm_base.specs.declared.place.Place.{Place}
@@ -8,15 +8,14 @@ use Rattle.mm_syntax.specs.Tree as t
 use Rattle.mm_overload.specs.Choice.{IsChoice, IsBest, best_of}
 use Rattle.mm_overload.specs.declared.choice.Best.{Best}
 use Rattle.mm_overload.specs.declared.choice.Best.TheVariants as best
-use Rattle.mm_scopes.specs.declared.head.Var.{Var}
 use Rattle.mm_scopes.specs.Environment.{Environment}
-use Rattle.mm_scopes.specs.Names.{IsFree, Means, lookup}
+use Rattle.mm_scopes.specs.Names.{IsFree, lookup}
 use Rattle.mm_scopes.proofs.Meaning.{lookup_cases, free_is, means_is}
 use Rattle.mm_checks.specs.Checks.{Fault, Checked}
 use Rattle.mm_checks.specs.Reads.{Reads}
-use Rattle.mm_checks.proofs.Combinators.{part, met, gives, fails}
+use Rattle.mm_checks.proofs.Combinators.{part, gives}
 use Rattle.mm_typing.specs.Typed.{Typed, arg_of}
-use Rattle.mm_typing.proofs.Chosen.{one_choice, best_is_choice}
+use Rattle.mm_overload.proofs.Choosing.{one_choice_only, best_is_choice}
 use Rattle.mm_typing.specs.Calls.{Candidate, params_in, declared, callable, own_name, called_name, some_declared, callee, take_best, own_call}
 use Rattle.mm_typing.specs.Typing.{NameCalls, NameCallsNone, Calls, CallsNone, CallTypes, CallFaults, Types, Faults}
 
@@ -93,7 +92,7 @@ module _ (g : List Class) (e : t.Expr) (cs : List Candidate) (xs : List Typed) w
   Chooses b = IsChoice g (map arg_of xs) (map params_in cs) b
 
   only : (a b : Best) → Chooses a → Chooses b → a ≡ b
-  only a b h k = one_choice g (map arg_of xs) (map params_in cs) a b h k
+  only a b h k = one_choice_only g (map arg_of xs) (map params_in cs) a b h k
 
   candidate_at : (i : ℕ) → IsBest g (map arg_of xs) (map params_in cs) i → (c : Candidate) × (slice_get cs i ≡ Some c)
   candidate_at i b = got (slice_get cs i) refl where

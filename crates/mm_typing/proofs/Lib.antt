@@ -1,4 +1,3 @@
 pub mod Calls
-pub mod Chosen
 pub mod Operators
 pub mod Reading

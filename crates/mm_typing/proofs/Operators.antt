@@ -1,6 +1,6 @@
 -- The checks of operators give what their relations say.
-use Rattle.std.proofs.Common.{◌≡◌, ℕ, Bool, refl, ap}
-use Rattle.std.specs.Prelude.{Ok, Err, ◌&&◌}
+use Rattle.std.proofs.Common.{◌≡◌, ℕ, refl, ap}
+use Rattle.std.specs.Prelude.{Ok, Err}
 use Rattle.mm_base.specs.declared.place.Place.{Place}
 use Rattle.mm_core.specs.declared.part.Operator.{Operator}
 use Rattle.mm_core.specs.declared.part.Operator.TheVariants as op

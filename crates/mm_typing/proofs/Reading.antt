@@ -1,15 +1,14 @@
 -- The check of an expression gives what the relations say: one line a node.
-use Rattle.std.proofs.Common.{◌≡◌, ℕ, List, [], ◌∷◌, map, refl}
+use Rattle.std.proofs.Common.{List, ◌∷◌}
 use Rattle.std.specs.Prelude.{Option, Some, None}
 use Rattle.mm_classes.specs.Classes.{Class}
 use Rattle.mm_classes.specs.declared.class.Ty.{Ty}
-use Rattle.mm_classes.specs.declared.class.Ty.TheVariants as ty
 use Rattle.mm_syntax.specs.Tree as t
 use Rattle.mm_scopes.specs.Environment.{Environment}
 use Rattle.mm_checks.specs.Reads.{Reads}
-use Rattle.mm_checks.proofs.Combinators.{part, met, gives, fails, exactly_one}
-use Rattle.mm_typing.specs.Typed.{Typed, arg_of}
-use Rattle.mm_typing.specs.Calls.{Candidate, params_in, own_call}
+use Rattle.mm_checks.proofs.Combinators.{part, gives, fails, exactly_one}
+use Rattle.mm_typing.specs.Typed.{Typed}
+use Rattle.mm_typing.specs.Calls.{Candidate, own_call}
 use Rattle.mm_typing.specs.Judge.{judge, judge_all, judge_as}
 use Rattle.mm_typing.specs.Typing.{CallTypes, CallFaults, Types, AreTyped, Faults, HaveFault, TypesAs, FaultsAs, OneVerdict}
 use Rattle.mm_typing.proofs.Operators.{becomes, unary_reads, step_reads, operation_reads, choose_reads, assign_reads}

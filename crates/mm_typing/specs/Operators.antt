@@ -1,5 +1,5 @@
 -- What operators make of typed operands, as checks. ISO/IEC 14882:1998, 5.2.6, 5.3.1, 5.3.2, 5.6 to 5.17.
-use Rattle.std.specs.Prelude.{ℕ, ℤ, pos, Bool, true, false, ◌&&◌, ◌||◌, if◌then◌else◌, Option, Some, None, Result, Ok, Err, codes}
+use Rattle.std.specs.Prelude.{ℕ, pos, Bool, ◌&&◌, ◌||◌, if◌then◌else◌, Option, Some, None, Ok, Err, codes}
 use Rattle.mm_base.specs.declared.place.Place.{Place}
 use Rattle.mm_base.specs.declared.code.TheConstants.Code.{N0, S12}
 use Rattle.mm_classes.specs.declared.class.Ty.{Ty}

@@ -1,5 +1,5 @@
 -- A typed expression. ISO/IEC 14882:1998, 3.10 (lvalues), 4.10/1 (null pointer constants).
-use Rattle.std.specs.Prelude.{ℕ, Bool, true, false, nat_eq, if◌then◌else◌, List, map}
+use Rattle.std.specs.Prelude.{Bool, true, false, nat_eq, if◌then◌else◌, List, map}
 use Rattle.mm_base.specs.Num.{to_int}
 use Rattle.mm_classes.specs.declared.class.Ty.{Ty}
 use Rattle.mm_classes.specs.declared.class.Ty.TheVariants as ty
