@@ -35,33 +35,33 @@ inside : {X : Type 0} {x y : X} → Some x ≡ Some y → x ≡ y
 inside e = cc
 
 -- a conversion that has a rank is one between arithmetic types, where both types are plain
-rank_converts : (g : List Class) (zero lvalue : Bool) (from to : Ty) → IsPlain from → IsPlain to → is_some (rank_from g zero lvalue from to) ≡ true → converts from to ≡ true
-rank_converts g zero lvalue ty.Void ty.Void p q e = cc
-rank_converts g zero lvalue ty.Void ty.Bool p q e = cc
-rank_converts g zero lvalue ty.Void ty.Int p q e = cc
-rank_converts g zero lvalue ty.Void ty.Unsigned p q e = cc
-rank_converts g zero lvalue ty.Void (ty.Ptr d) p q e = cc
-rank_converts g zero lvalue ty.Void (ty.Ref d) p q e = cc
-rank_converts g zero lvalue ty.Bool ty.Void p q e = cc
-rank_converts g zero lvalue ty.Bool ty.Bool p q e = refl
-rank_converts g zero lvalue ty.Bool ty.Int p q e = refl
-rank_converts g zero lvalue ty.Bool ty.Unsigned p q e = refl
-rank_converts g zero lvalue ty.Bool (ty.Ptr d) p q e = cc
-rank_converts g zero lvalue ty.Bool (ty.Ref d) p q e = cc
-rank_converts g zero lvalue ty.Int ty.Void p q e = cc
-rank_converts g zero lvalue ty.Int ty.Bool p q e = refl
-rank_converts g zero lvalue ty.Int ty.Int p q e = refl
-rank_converts g zero lvalue ty.Int ty.Unsigned p q e = refl
-rank_converts g zero lvalue ty.Int (ty.Ptr d) p q e = cc
-rank_converts g zero lvalue ty.Int (ty.Ref d) p q e = cc
-rank_converts g zero lvalue ty.Unsigned ty.Void p q e = cc
-rank_converts g zero lvalue ty.Unsigned ty.Bool p q e = refl
-rank_converts g zero lvalue ty.Unsigned ty.Int p q e = refl
-rank_converts g zero lvalue ty.Unsigned ty.Unsigned p q e = refl
-rank_converts g zero lvalue ty.Unsigned (ty.Ptr d) p q e = cc
-rank_converts g zero lvalue ty.Unsigned (ty.Ref d) p q e = cc
-rank_converts g zero lvalue (ty.Ptr c) to p q e = cc
-rank_converts g zero lvalue (ty.Ref c) to p q e = cc
+rank_converts : (g : List Class) (z lvalue : Bool) (from to : Ty) → IsPlain from → IsPlain to → is_some (rank_from g z lvalue from to) ≡ true → converts from to ≡ true
+rank_converts g z lvalue ty.Void ty.Void p q e = cc
+rank_converts g z lvalue ty.Void ty.Bool p q e = cc
+rank_converts g z lvalue ty.Void ty.Int p q e = cc
+rank_converts g z lvalue ty.Void ty.Unsigned p q e = cc
+rank_converts g z lvalue ty.Void (ty.Ptr d) p q e = cc
+rank_converts g z lvalue ty.Void (ty.Ref d) p q e = cc
+rank_converts g z lvalue ty.Bool ty.Void p q e = cc
+rank_converts g z lvalue ty.Bool ty.Bool p q e = refl
+rank_converts g z lvalue ty.Bool ty.Int p q e = refl
+rank_converts g z lvalue ty.Bool ty.Unsigned p q e = refl
+rank_converts g z lvalue ty.Bool (ty.Ptr d) p q e = cc
+rank_converts g z lvalue ty.Bool (ty.Ref d) p q e = cc
+rank_converts g z lvalue ty.Int ty.Void p q e = cc
+rank_converts g z lvalue ty.Int ty.Bool p q e = refl
+rank_converts g z lvalue ty.Int ty.Int p q e = refl
+rank_converts g z lvalue ty.Int ty.Unsigned p q e = refl
+rank_converts g z lvalue ty.Int (ty.Ptr d) p q e = cc
+rank_converts g z lvalue ty.Int (ty.Ref d) p q e = cc
+rank_converts g z lvalue ty.Unsigned ty.Void p q e = cc
+rank_converts g z lvalue ty.Unsigned ty.Bool p q e = refl
+rank_converts g z lvalue ty.Unsigned ty.Int p q e = refl
+rank_converts g z lvalue ty.Unsigned ty.Unsigned p q e = refl
+rank_converts g z lvalue ty.Unsigned (ty.Ptr d) p q e = cc
+rank_converts g z lvalue ty.Unsigned (ty.Ref d) p q e = cc
+rank_converts g z lvalue (ty.Ptr c) to p q e = cc
+rank_converts g z lvalue (ty.Ref c) to p q e = cc
 
 module _ (a : Around) (known : List ℕ) where
   abbrev pub AllSound : List Typed → Type 0
@@ -115,13 +115,14 @@ module _ (a : Around) (known : List ℕ) where
   heads_there [] s = tt
   heads_there (h ∷ hs) s = (s h (first refl), heads_there hs (λ x m. s x (later m)))
 
+  from_if : (b : Bool) (x : FnHead) (ys xs : List FnHead) (h : FnHead) → (Has ys h → Has xs h) → Has (if b then x ∷ ys else ys) h → Has (x ∷ xs) h
+  from_if true x ys xs h f (first e) = first e
+  from_if true x ys xs h f (later n) = later (f n)
+  from_if false x ys xs h f n = later (f n)
+
   from_filter : (p : FnHead → Bool) (hs : List FnHead) (h : FnHead) → Has (filter p hs) h → Has hs h
   from_filter p [] h m = m
-  from_filter p (x ∷ xs) h m = by (p x) m where
-    by : (b : Bool) → Has (if b then x ∷ filter p xs else filter p xs) h → Has (x ∷ xs) h
-    by true (first e) = first e
-    by true (later n) = later (from_filter p xs h n)
-    by false n = later (from_filter p xs h n)
+  from_filter p (x ∷ xs) h m = from_if (p x) x (filter p xs) xs h (from_filter p xs h) m
 
   declared_there : (o : Option Builtin) (hs : List FnHead) → ((h : FnHead) → Has hs h → IsHeadOf a h) → AllThere (declared_or o hs)
   declared_there (Some b) hs s = (tt, tt)
@@ -135,7 +136,7 @@ module _ (a : Around) (known : List ℕ) where
       by false = declared_there (builtin_of x) (named x env.functions) (λ h m. seen.functions h (from_filter (λ f. bytes_eq f.name x) env.functions h m))
 
     name_there : (x : List ℕ) (cs : List Candidate) → NameCalls env x (Some cs) → AllThere cs
-    name_there x cs (inl h) = absurd (let e = h.2 in cc)
+    name_there x cs (inl h) = absurd (let e = h.1.1 in cc)
     name_there x cs (inr h) = subst AllThere (inside h.1.1) (callable_there x)
 
     called_there : (e : t.Expr) (T : Typed → Type 0) (cs : List Candidate) → Calls env e T (Some cs) → AllThere cs

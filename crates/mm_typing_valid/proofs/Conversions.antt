@@ -95,30 +95,30 @@ alone (ty.Ref c) e = cc
 
 module _ (a : Around) (known : List ℕ) where
   conversion : (from : Ty) (x : Target) (e : k.Expr) → IsTrue (is_arithmetic from) → from ≢ type_of_target x → IsOf a known e from → IsOf a known (k.convert x e) (type_of_target x)
-  conversion from x e n ne o = (refl, ((λ z. ne (sym o.0 ∙ z)), inl (subst (λ t. IsTrue (is_arithmetic t)) (sym o.0) n)), o.1)
+  conversion from x e n ne o = (refl, (((λ z. ne (sym o.0 ∙ z)), inl (subst (λ t. IsTrue (is_arithmetic t)) (sym o.0) n)), o.1))
 
   pub conversion_of : (from to : Ty) (e : k.Expr) → converts from to ≡ true → IsOf a known e from → IsOf a known (if same_type from to then e else convert_to to e) to
-  conversion_of ty.Void to e c o = cc
-  conversion_of ty.Bool ty.Void e c o = cc
-  conversion_of ty.Bool ty.Bool e c o = o
-  conversion_of ty.Bool ty.Int e c o = conversion ty.Bool target.Int e refl (λ z. cc) o
-  conversion_of ty.Bool ty.Unsigned e c o = conversion ty.Bool target.Unsigned e refl (λ z. cc) o
-  conversion_of ty.Bool (ty.Ptr c) e c o = cc
-  conversion_of ty.Bool (ty.Ref c) e c o = cc
-  conversion_of ty.Int ty.Void e c o = cc
-  conversion_of ty.Int ty.Bool e c o = conversion ty.Int target.Bool e refl (λ z. cc) o
-  conversion_of ty.Int ty.Int e c o = o
-  conversion_of ty.Int ty.Unsigned e c o = conversion ty.Int target.Unsigned e refl (λ z. cc) o
-  conversion_of ty.Int (ty.Ptr c) e c o = cc
-  conversion_of ty.Int (ty.Ref c) e c o = cc
-  conversion_of ty.Unsigned ty.Void e c o = cc
-  conversion_of ty.Unsigned ty.Bool e c o = conversion ty.Unsigned target.Bool e refl (λ z. cc) o
-  conversion_of ty.Unsigned ty.Int e c o = conversion ty.Unsigned target.Int e refl (λ z. cc) o
-  conversion_of ty.Unsigned ty.Unsigned e c o = o
-  conversion_of ty.Unsigned (ty.Ptr c) e c o = cc
-  conversion_of ty.Unsigned (ty.Ref c) e c o = cc
-  conversion_of (ty.Ptr c) to e c o = cc
-  conversion_of (ty.Ref c) to e c o = cc
+  conversion_of ty.Void to e h o = cc
+  conversion_of ty.Bool ty.Void e h o = cc
+  conversion_of ty.Bool ty.Bool e h o = o
+  conversion_of ty.Bool ty.Int e h o = conversion ty.Bool target.Int e refl (λ z. cc) o
+  conversion_of ty.Bool ty.Unsigned e h o = conversion ty.Bool target.Unsigned e refl (λ z. cc) o
+  conversion_of ty.Bool (ty.Ptr d) e h o = cc
+  conversion_of ty.Bool (ty.Ref d) e h o = cc
+  conversion_of ty.Int ty.Void e h o = cc
+  conversion_of ty.Int ty.Bool e h o = conversion ty.Int target.Bool e refl (λ z. cc) o
+  conversion_of ty.Int ty.Int e h o = o
+  conversion_of ty.Int ty.Unsigned e h o = conversion ty.Int target.Unsigned e refl (λ z. cc) o
+  conversion_of ty.Int (ty.Ptr d) e h o = cc
+  conversion_of ty.Int (ty.Ref d) e h o = cc
+  conversion_of ty.Unsigned ty.Void e h o = cc
+  conversion_of ty.Unsigned ty.Bool e h o = conversion ty.Unsigned target.Bool e refl (λ z. cc) o
+  conversion_of ty.Unsigned ty.Int e h o = conversion ty.Unsigned target.Int e refl (λ z. cc) o
+  conversion_of ty.Unsigned ty.Unsigned e h o = o
+  conversion_of ty.Unsigned (ty.Ptr d) e h o = cc
+  conversion_of ty.Unsigned (ty.Ref d) e h o = cc
+  conversion_of (ty.Ptr c) to e h o = cc
+  conversion_of (ty.Ref c) to e h o = cc
 
   pub converted_is : (to : Ty) (x : Typed) → converts x.ty to ≡ true → IsOf a known x.core x.ty → IsOf a known (converted to x) to
   converted_is to x c o = conversion_of x.ty to x.core c o

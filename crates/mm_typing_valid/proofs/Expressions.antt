@@ -185,7 +185,7 @@ module _ (a : Around) (known : List ℕ) where
       valid_of (t.number p n) v r h = subst (IsSound a known) h (literal n r)
       valid_of (t.boolean p b) v r h = subst (IsSound a known) h (number_is (k.bool b) ty.Bool refl (refl, tt))
       valid_of (t.this p) v r h = absurd h
-      valid_of (t.name p x) v r h = subst (IsSound a known) h.2 (name_is x h.0 h.1)
+      valid_of (t.name p x) v r h = subst (IsSound a known) h.1.1 (name_is x h.0 h.1.0)
       valid_of (t.scoped p class word) v r h = absurd h
       valid_of (t.cast p class b) v r h = absurd h
       valid_of (t.unary p o b) v r h = unary_is o h.0 v h.2 (valid_of b h.0 r h.1)
