@@ -1,4 +1,5 @@
--- Which of two conversions is better. ISO/IEC 14882:1998, 13.3.3.2 (ranking implicit conversion sequences).
+-- Which of two conversions is better. ISO/IEC 14882:1998, 13.3.3.2 (ranking implicit conversion
+-- sequences).
 use Rattle.std.specs.Prelude.{◌≡◌, ℕ, ◌<◌, ◌⊎◌, true, List}
 use Rattle.mm_classes.specs.declared.class.Ty.{Ty}
 use Rattle.mm_classes.specs.declared.class.Ty.TheVariants as ty
@@ -24,14 +25,15 @@ IsPointerToBool x = (c : ℕ) × (x.from ≡ ty.Ptr c) × (x.to ≡ ty.Bool)
 abbrev pub OnlyIsPointerToBool : Conv → Conv → Type 0
 OnlyIsPointerToBool x other = IsPointerToBool x × (IsPointerToBool other → ⊥)
 
--- from class C, to B and to A, both as pointers or both as references, and B derives from A (13.3.3.2/4)
+-- from class C, to B and to A, both as pointers or both as references, and B derives from A
+-- (13.3.3.2/4)
 abbrev pub IsNearer : List Class → (from to other : Ty) → Type 0
 IsNearer g (ty.Ptr c) (ty.Ptr b) (ty.Ptr a) = is_base g b a ≡ true
 IsNearer g (ty.Ref c) (ty.Ref b) (ty.Ref a) = is_base g b a ≡ true
 IsNearer g from to other = ⊥
 
--- Of two conversions of one argument the first is better: its rank is; or the ranks are equal, and only the other makes a
--- pointer a bool, or the first goes to a nearer base.
+-- Of two conversions of one argument the first is better: its rank is; or the ranks are equal, and
+-- only the other makes a pointer a bool, or the first goes to a nearer base.
 abbrev pub IsBetter : List Class → Conv → Conv → Type 0
 IsBetter g x y = (x.from ≡ y.from) × ((place_of x.rank < place_of y.rank)
     ⊎ ((x.rank ≡ y.rank) × (OnlyIsPointerToBool y x ⊎ IsNearer g x.from x.to y.to)))

@@ -3,10 +3,10 @@
 ghost use Rattle.std.specs.Prelude.{◌≡◌, ◌<◌, ℕ, List, map, length, IfSome, not, ◌||◌, nat_eq};
 ghost use Rattle.mm_classes.specs.Classes.{IsClassList};
 ghost use Rattle.mm_classes.specs.declared.class.Ty.{Ty};
-ghost use Rattle.mm_overload.specs.Choice.{IsChoice, best_of, viable, none_worse, some_better, better_to, better_function, params_at, meets, champion, beats_all};
+ghost use Rattle.mm_overload.specs.Choice.{IsChoice, best_of, viable, some_better, better_to, better_function, params_at, meets, champion, beats_all};
 
 use crate::conv::Arg;
-use crate::ranks::{conversion, is_better};
+use crate::ranks::{conversion, is_better, rank};
 use mm_classes::class::Ty;
 use mm_paths::graph::Graph;
 
@@ -41,24 +41,7 @@ fn is_viable(graph: &Graph, args: &[Arg], params: &[Ty]) -> bool
         [] => params.is_empty(),
         [a, more @ ..] => match params {
             [] => false,
-            [p, rest @ ..] => conversion(graph, a, p).is_some() && is_viable(graph, more, rest),
-        },
-    }
-}
-
-fn is_none_worse(graph: &Graph, args: &[Arg], f: &[Ty], g: &[Ty]) -> bool
-    ensures { result ≡ none_worse graph.now args.now f.now g.now }
-{
-    match args {
-        [] => true,
-        [a, more @ ..] => match f {
-            [] => true,
-            [p, ps @ ..] => match g {
-                [] => true,
-                [q, qs @ ..] => {
-                    !is_better_to(graph, a, q, p) && is_none_worse(graph, more, ps, qs)
-                }
-            },
+            [p, rest @ ..] => rank(graph, a, p).is_some() && is_viable(graph, more, rest),
         },
     }
 }
@@ -84,20 +67,15 @@ fn is_some_better(graph: &Graph, args: &[Arg], f: &[Ty], g: &[Ty]) -> bool
 fn beats(graph: &Graph, args: &[Arg], f: &[Ty], g: &[Ty]) -> bool
     ensures { result ≡ better_function graph.now args.now f.now g.now }
 {
-    is_none_worse(graph, args, f, g) && is_some_better(graph, args, f, g)
+    !is_some_better(graph, args, g, f) && is_some_better(graph, args, f, g)
 }
 
 // The candidate that is not beaten, with the next one.
-fn met(
-    graph: &Graph,
-    args: &[Arg],
-    all: &[&[Ty]],
-    held: Option<usize>,
-    i: usize,
-) -> Option<usize>
+fn met(graph: &Graph, args: &[Arg], all: &[&[Ty]], held: Option<usize>, i: usize) -> Option<usize>
     requires at { i < length all.now }
     requires low { IfSome held (λ w. w < length all.now) }
-    ensures is { result ≡ meets graph.now args.now (map (λ c. c.now) all.now) held i (params_at (map (λ c. c.now) all.now) i) }
+    ensures is { result ≡ meets graph.now args.now (map (λ c. c.now) all.now) held i (params_at
+        (map (λ c. c.now) all.now) i) }
     ensures low { IfSome result (λ w. w < length all.now) }
 {
     let params = all[i];
@@ -115,7 +93,8 @@ fn met(
 
 // The candidate that is not beaten from left to right.
 fn find_champion(graph: &Graph, args: &[Arg], all: &[&[Ty]]) -> Option<usize>
-    ensures is { result ≡ champion graph.now args.now (map (λ c. c.now) all.now) None 0 (map (λ c. c.now) all.now) }
+    ensures is { result ≡ champion graph.now args.now (map (λ c. c.now) all.now) None 0 (map (λ c.
+        c.now) all.now) }
     ensures low { IfSome result (λ w. w < length all.now) }
 {
     let mut held = None;
@@ -127,7 +106,8 @@ fn find_champion(graph: &Graph, args: &[Arg], all: &[&[Ty]]) -> Option<usize>
 
 // Whether a candidate is the best one, or not viable, or worse.
 fn is_below(graph: &Graph, args: &[Arg], best: &[Ty], w: usize, i: usize, other: &[Ty]) -> bool
-    ensures { result ≡ ((nat_eq i w || not (viable graph.now args.now other.now)) || better_function graph.now args.now best.now other.now) }
+    ensures { result ≡ ((nat_eq i w || not (viable graph.now args.now other.now)) ||
+        better_function graph.now args.now best.now other.now) }
 {
     i == w || !is_viable(graph, args, other) || beats(graph, args, best, other)
 }
@@ -142,8 +122,8 @@ fn is_over_all(graph: &Graph, args: &[Arg], all: &[&[Ty]], best: &[Ty], w: usize
     over
 }
 
-/// The viable candidate that is better than every other viable one, where each candidate is the list of the types of its
-/// parameters. It goes over the candidates twice, and takes no memory.
+/// The viable candidate that is better than every other viable one, where each candidate is the
+/// list of the types of its parameters. It goes over the candidates twice, and takes no memory.
 pub fn get_best(graph: &Graph, args: &[Arg], candidates: &[&[Ty]]) -> Best
     ensures is { result ≡ best_of graph.now args.now (map (λ c. c.now) candidates.now) }
     ensures choice { IsChoice graph.now args.now (map (λ c. c.now) candidates.now) result }

@@ -26,9 +26,6 @@ pub fn one_order(graph: &Graph)
 }
 
 /// A call has one choice, so at most one function is the best.
-pub fn one_choice(graph: &Graph)
-    ensures { OneChoice graph.now }
-{
-    // Asked here, so that the graph is known to be a class list.
-    let _classes = graph.classes();
-}
+pub fn one_choice()
+    ensures { OneChoice }
+{}
