@@ -2,9 +2,7 @@
 --
 -- The variables that are seen stand in one list, the innermost last; a scope is what stands in it behind a number of
 -- outer ones. Locals are numbered: the parameters, then the variables in the order of their declarations.
-use Rattle.std.specs.Prelude.{ℕ, ◌+◌, Bool, true, not, List, [], ◌∷◌, ◌++◌, length, drop, Option, Some, None}
-use Rattle.std.specs.List.{list_any}
-use Rattle.std.specs.Str.{bytes_eq}
+use Rattle.std.specs.Prelude.{ℕ, ◌+◌, Bool, true, not, is_some, List, [], ◌∷◌, ◌++◌, length, drop, Option, Some, None}
 use Rattle.mm_classes.specs.declared.class.Ty.{Ty}
 use Rattle.mm_classes.specs.declared.class.Ty.TheVariants as ty
 use Rattle.mm_syntax.specs.declared.name.Name.{Name}
@@ -13,6 +11,7 @@ use Rattle.mm_syntax.specs.declared.expr.TypeName.{TypeName}
 use Rattle.mm_syntax.specs.Tree as t
 use Rattle.mm_scopes.specs.declared.head.Var.{Var}
 use Rattle.mm_scopes.specs.Environment.{Environment}
+use Rattle.mm_scopes.specs.Names.{lookup}
 use Rattle.mm_unit_typing.specs.declared.here.Here.{Here}
 use Rattle.mm_unit_typing.specs.Declarators.{scalar_of}
 
@@ -22,9 +21,9 @@ use Rattle.mm_unit_typing.specs.Declarators.{scalar_of}
 abbrev pub inside : Environment → List Var → Environment
 inside env vs = record env { vars = vs }
 
--- no variable of the scope that stands here has the name
+-- in the scope that stands here the name means no variable
 abbrev pub is_new : ℕ → List Var → List ℕ → Bool
-is_new outer vs text = not (list_any (λ (v : Var). bytes_eq v.name text) (drop outer vs))
+is_new outer vs text = not (is_some (lookup (drop outer vs) text))
 
 -- a scope inside, in which nothing is declared yet
 abbrev pub within : Here → List Var → Here
