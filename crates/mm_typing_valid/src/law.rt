@@ -1,10 +1,18 @@
 //! What holds of the checked trees of all that is typed.
 
 ghost use Rattle.mm_typing_valid.specs.Expressions.{TypedIsValid, TypedAsIsValid};
+ghost use Rattle.mm_typing_valid.specs.Statements.{TypedStmtIsValid, TypedStmtExtends};
 
 /// The checked tree of a typed expression is valid, and of its type.
 pub fn expressions()
     ensures typed { TypedIsValid }
     ensures typed_as { TypedAsIsValid }
+{
+}
+
+/// What a typed statement becomes is valid in its function, and it numbers its variables behind those before it.
+pub fn statements()
+    ensures valid { TypedStmtIsValid }
+    ensures extends { TypedStmtExtends }
 {
 }
