@@ -3,3 +3,7 @@ pub mod Calls
 pub mod Expressions
 pub mod Locals
 pub mod Statements
+pub mod Variables
+pub mod Heads
+pub mod Functions
+pub mod Units

@@ -2,3 +2,4 @@ pub mod Numbers
 pub mod Seen
 pub mod Expressions
 pub mod Statements
+pub mod Units

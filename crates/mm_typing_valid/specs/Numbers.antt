@@ -62,3 +62,12 @@ abbrev mutual
   pub StmtsInRange : t.Stmts → Type 0
   StmtsInRange t.no_stmts = Unit {0}
   StmtsInRange (t.stmt_and s ss) = StmtInRange s × StmtsInRange ss
+
+abbrev pub FunctionInRange : t.Function → Type 0
+FunctionInRange (t.definition p x body) = StmtInRange body
+FunctionInRange other = Unit {0}
+
+abbrev pub DeclsInRange : List t.Decl → Type 0
+DeclsInRange [] = Unit {0}
+DeclsInRange (t.function_decl p x ∷ xs) = FunctionInRange x × DeclsInRange xs
+DeclsInRange (t.class_decl p x ∷ xs) = DeclsInRange xs

@@ -1,6 +1,7 @@
 //! What holds of the checked trees of all that is typed.
 
 ghost use Rattle.mm_typing_valid.specs.Expressions.{TypedIsValid, TypedAsIsValid};
+ghost use Rattle.mm_typing_valid.specs.Units.{TypedUnitIsValid};
 ghost use Rattle.mm_typing_valid.specs.Statements.{TypedStmtIsValid, TypedStmtExtends};
 
 /// The checked tree of a typed expression is valid, and of its type.
@@ -14,5 +15,11 @@ pub fn expressions()
 pub fn statements()
     ensures valid { TypedStmtIsValid }
     ensures extends { TypedStmtExtends }
+{
+}
+
+/// The program of a typed unit is valid.
+pub fn units()
+    ensures { TypedUnitIsValid }
 {
 }
