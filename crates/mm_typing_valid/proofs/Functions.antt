@@ -148,7 +148,7 @@ pub record IsFine (f : k.Function) : Type 0 where
   pub locals : AllArithmetic f.locals
   pub yours : is_reserved f.name ≡ false
 
-no_virtual : (qs : List CoreParam) → ((q : CoreParam) → Has qs q → (is_arithmetic q.ty ≡ true) × (q.is_virtual ≡ false)) → list_any (λ (q : CoreParam). q.is_virtual) qs ≡ false
+pub no_virtual : (qs : List CoreParam) → ((q : CoreParam) → Has qs q → (is_arithmetic q.ty ≡ true) × (q.is_virtual ≡ false)) → list_any (λ (q : CoreParam). q.is_virtual) qs ≡ false
 no_virtual [] f = refl
 no_virtual (q ∷ qs) f = rw ((f q (first refl)).1, no_virtual qs (λ r m. f r (later m))) refl
 

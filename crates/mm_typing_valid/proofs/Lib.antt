@@ -7,3 +7,4 @@ pub mod Variables
 pub mod Heads
 pub mod Functions
 pub mod Units
+pub mod Called

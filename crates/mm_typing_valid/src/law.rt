@@ -1,6 +1,7 @@
 //! What holds of the checked trees of all that is typed.
 
 ghost use Rattle.mm_typing_valid.specs.Expressions.{TypedIsValid, TypedAsIsValid};
+ghost use Rattle.mm_typing_valid.specs.Called.{TypedUnitIsScalar};
 ghost use Rattle.mm_typing_valid.specs.Units.{TypedUnitIsValid};
 ghost use Rattle.mm_typing_valid.specs.Statements.{TypedStmtIsValid, TypedStmtExtends};
 
@@ -21,5 +22,11 @@ pub fn statements()
 /// The program of a typed unit is valid.
 pub fn units()
     ensures { TypedUnitIsValid }
+{
+}
+
+/// A typed unit that defines `main` and all functions that are called is a whole program.
+pub fn programs()
+    ensures { TypedUnitIsScalar }
 {
 }
