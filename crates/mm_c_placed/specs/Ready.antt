@@ -1,5 +1,5 @@
 -- Each place that a function's body names is one of its slots. A machine may then find it without a look at a length.
-use Rattle.std.specs.Prelude.{ℕ, ◌<◌, Option, Some, None, All}
+use Rattle.std.specs.Prelude.{ℕ, ◌<◌, List, [], ◌∷◌, Option, Some, None, All}
 use Rattle.mm_c_placed.specs.declared.tree.Operand.{Operand}
 use Rattle.mm_c_placed.specs.declared.tree.Operand.TheVariants.{Place, Value}
 use Rattle.mm_c_placed.specs.declared.tree.Index.{Index}
@@ -36,9 +36,12 @@ abbrev pub IsInResult : ℕ → Option Local → Type 0
 IsInResult n None = Unit {0}
 IsInResult n (Some x) = x.place < n
 
+abbrev pub AreIn : ℕ → List Local → Type 0
+AreIn n xs = All (λ (x : Local). x.place < n) xs
+
 abbrev mutual
   pub IsInStmt : ℕ → Stmt → Type 0
-  IsInStmt n (locals xs) = All (λ (x : Local). x.place < n) xs
+  IsInStmt n (locals xs) = AreIn n xs
   IsInStmt n (assign x r) = (x.place < n) × IsInRight n r
   IsInStmt n (store c p a) = (p.pointer < n) × IsInOperand n a
   IsInStmt n (run x f as_) = IsInResult n x × IsInTarget n f × All (IsInOperand n) as_

@@ -1,0 +1,5 @@
+//! Runs C programs with places, on a stack of its own.
+#![tactic(auto)]
+
+pub mod frame;
+pub mod prelude;
