@@ -1,3 +1,7 @@
 pub mod Frames
 pub mod Ints
 pub mod Answering
+pub mod Stack
+pub mod Moves
+pub mod Growth
+pub mod Giving

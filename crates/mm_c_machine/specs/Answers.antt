@@ -11,6 +11,8 @@ use Rattle.mm_c.specs.declared.value.CValue.{CValue}
 use Rattle.mm_c.specs.declared.value.CValue.TheVariants.{Int, Unsigned, Long, Null, At}
 use Rattle.mm_c.specs.Memory as c
 use Rattle.mm_c.specs.CMeaning.{State, Trapped, Stuck, Given, asks, traps, allocates, given_call, value_of}
+use Rattle.mm_c_placed.specs.declared.tree.Callee.{Callee}
+use Rattle.mm_c_placed.specs.declared.tree.Callee.TheVariants as callee_is
 use Rattle.mm_c_memory.specs.declared.memory.Memory.{Memory}
 use Rattle.mm_c_memory.specs.Held.{Holds}
 use Rattle.mm_c_machine.specs.declared.prelude.Refusal.{Refusal}
@@ -25,6 +27,12 @@ abbrev pub given_of : Prelude → Given
 given_of (prelude.Asks b) = asks b
 given_of prelude.Trap = traps
 given_of prelude.New = allocates
+
+-- the function of the prelude, as it is called
+abbrev pub callee_of : Prelude → Callee
+callee_of (prelude.Asks b) = callee_is.Asks b
+callee_of prelude.Trap = callee_is.Trap
+callee_of prelude.New = callee_is.New
 
 -- what a call does to the memory and the world, by its answer
 abbrev pub Answers : Result (Option CValue) Refusal → Prelude → List CValue → List c.Block → World → Memory → World → Type 0
