@@ -5,3 +5,6 @@ pub mod Stack
 pub mod Moves
 pub mod Growth
 pub mod Giving
+pub mod Arrivals
+pub mod Statements
+pub mod Ways

@@ -103,3 +103,16 @@ entered s x more vs slots result is_inline body = record {
 
 abbrev pub store_of : Level → State → Store
 store_of l s = record { frame = start l.values; state = s }
+
+-- ---- a function that was called
+
+-- where a function is left, over the one that called it
+abbrev pub calling : Core → At → Option Local → Level → Code → List Piece → Core
+calling s a x l c ps = record { at = a; level = s.level; pieces = ret x l c ∷ ps }
+
+-- the caller, and what is done after it
+abbrev pub below : Machine → Frame → Level
+below m f = level_of f (take m.frame.base m.values.items)
+
+abbrev pub pieces_below : Machine → Frame → List Piece
+pieces_below m f = pieces_of (reverse m.pending.items) f.base (take m.frame.base m.values.items)

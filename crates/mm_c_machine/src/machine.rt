@@ -14,10 +14,10 @@ ghost use Rattle.mm_c_placed.specs.View.{code_view, stmt_view, function_view, pr
 ghost use Rattle.mm_c_placed.specs.Ready.{IsInOperand, AreIn, IsInRight, IsInIndex, IsInResult, IsReady};
 ghost use Rattle.mm_c_placed.specs.Meaning.{operand_of, start, value_in, index_of, element_at, around_of, Calls};
 ghost use Rattle.mm_c_machine.specs.Frames.{fitted_all, with_zeros};
-ghost use Rattle.mm_c_machine.specs.State.{seen, frame_of, level_of, with_local, with_values, with_at, with_piece, entered, code, leaves, no_way, rest, loop, flow_view, store_of};
+ghost use Rattle.mm_c_machine.specs.State.{seen, frame_of, level_of, with_local, with_values, with_at, with_piece, entered, code, leaves, no_way, rest, loop, flow_view, store_of, with_level, calling, below, pieces_below};
 ghost use Rattle.mm_c_machine.specs.Answers.{state, Answers, callee_of};
 ghost use Rattle.mm_c_machine.specs.Ready.{IsReadyCore};
-ghost use Rattle.mm_c_machine.specs.Goes.{Goes, Received, Entered, IsCalled, IsFound};
+ghost use Rattle.mm_c_machine.specs.Goes.{Goes, Grows, Reaches, Received, Entered, IsCalled, IsFound};
 ghost use Rattle.mm_c_machine.specs.Parts.{function_in, number_in};
 
 use crate::frame;
@@ -28,7 +28,7 @@ use mm_c::tree::CKind;
 use mm_c::value::{CCell, CValue};
 use mm_c_memory::memory::Memory;
 use mm_c_memory::operate;
-use mm_c_placed::tree::{Callee, Element, Index, Local, Operand, PlacedFunction, PlacedProgram, PlacedStmt, Right, Target};
+use mm_c_placed::tree::{Address, Callee, Element, Index, Local, Operand, PlacedFunction, PlacedProgram, PlacedStmt, Right, Target};
 use sqlite_items::at;
 use std::alloc::{AllocError, Global};
 
@@ -442,6 +442,249 @@ impl<'a> Machine<'a> {
             Callee::Asks(b) => self.give(alloc, world, Prelude::Asks(b), x, args, more),
             Callee::Trap => self.give(alloc, world, Prelude::Trap, x, args, more),
             Callee::New => self.give(alloc, world, Prelude::New, x, args, more),
+        }
+    }
+}
+
+impl<'a> Machine<'a> {
+    fn assign(
+        &mut self,
+        program: &PlacedProgram,
+        x: Local,
+        r: Right,
+        more: &'a [PlacedStmt],
+    ) -> Went
+        requires { IsReadyCore (with_at (seen self.old) (code (do_then (tree.assign x r) (code_view more.now)))) }
+        ensures { (m : List c.Block) (w : plain.World) → Holds m self.old.memory → Goes (program_view program.now) result (with_at (seen self.old) (code (do_then (tree.assign x r) (code_view more.now)))) m w (seen self.new) self.new.memory w }
+    {
+        match self.right(program, r) {
+            None => Went::Over(Ending::Stuck),
+            Some(v) => {
+                self.set(x, v);
+                self.here = Here::Code(more);
+                Went::On
+            }
+        }
+    }
+
+    fn store(&mut self, kind: CCell, p: Address, a: Operand, more: &'a [PlacedStmt]) -> Went
+        requires { IsReadyCore (with_at (seen self.old) (code (do_then (tree.store kind p a) (code_view more.now)))) }
+        ensures { (q : Program) (m : List c.Block) (w : plain.World) → Holds m self.old.memory → Goes q result (with_at (seen self.old) (code (do_then (tree.store kind p a) (code_view more.now)))) m w (seen self.new) self.new.memory w }
+    {
+        let pointer = self.place(p.pointer);
+        let value = operate::fitted_in(kind, self.value(a));
+        if self.memory.store(kind, pointer, p.offset, value) {
+            self.here = Here::Code(more);
+            Went::On
+        } else {
+            Went::Over(Ending::Stuck)
+        }
+    }
+
+    fn clear(&mut self, xs: &[Local], more: &'a [PlacedStmt])
+        requires { AreIn (length (frame_of self.old)) xs.now }
+        ensures core { seen self.new ≡ with_at (with_level (seen self.old) (with_values (seen self.old).level (with_zeros xs.now (frame_of self.old)))) (code (code_view more.now)) }
+        ensures memory { self.new.memory ≡ self.old.memory }
+    {
+        frame::clear(&mut self.values, self.frame.base, xs);
+        self.here = Here::Code(more);
+    }
+
+    // One way at 0, and the other at any other number.
+    fn choose(
+        &mut self,
+        a: Operand,
+        b: &'a [PlacedStmt],
+        d: &'a [PlacedStmt],
+        more: &'a [PlacedStmt],
+    ) -> Result<Went, AllocError>
+        requires { IsReadyCore (with_at (seen self.old) (code (do_then (tree.if_else a (code_view b.now) (code_view d.now)) (code_view more.now)))) }
+        ensures { IfOk result (λ went. (q : Program) (m : List c.Block) (w : plain.World) → Holds m self.old.memory → Goes q went (with_at (seen self.old) (code (do_then (tree.if_else a (code_view b.now) (code_view d.now)) (code_view more.now)))) m w (seen self.new) self.new.memory w) }
+    {
+        match self.value(a) {
+            CValue::Int(z) => {
+                if z == 0 {
+                    self.branch(d, more)?;
+                    Ok(Went::On)
+                } else {
+                    self.branch(b, more)?;
+                    Ok(Went::On)
+                }
+            }
+            _ => Ok(Went::Over(Ending::Stuck)),
+        }
+    }
+
+    // The function that was called is left.
+    fn come_back(
+        &mut self,
+        flow: Flow,
+        frame: Frame,
+        x: Option<Local>,
+        more: &'a [PlacedStmt],
+    ) -> Went
+        requires { IsInResult (length (drop frame.base (take self.old.frame.base self.old.values.items))) x }
+        ensures { (p : Program) (m : List c.Block) (w : plain.World) → Holds m self.old.memory → IsReadyCore (calling (seen self.old) (leaves (flow_view flow)) x (below self.old frame) (code_view more.now) (pieces_below self.old frame)) → Goes p result (calling (seen self.old) (leaves (flow_view flow)) x (below self.old frame) (code_view more.now) (pieces_below self.old frame)) m w (seen self.new) self.new.memory w }
+    {
+        match left(self.frame.result, flow) {
+            None => Went::Over(Ending::Stuck),
+            Some(v) => {
+                self.values.truncate(self.frame.base);
+                self.frame = frame;
+                if self.receive(x, v, more) {
+                    Went::On
+                } else {
+                    Went::Over(Ending::Stuck)
+                }
+            }
+        }
+    }
+
+    // A block or a loop is left so, or ends.
+    fn leave(&mut self, flow: Flow)
+        ensures core { seen self.new ≡ with_at (seen self.old) (leaves (flow_view flow)) }
+        ensures memory { self.new.memory ≡ self.old.memory }
+    {
+        self.here = Here::Leaves(flow);
+    }
+
+    // One piece is taken from the stack.
+    fn arrive(&mut self, flow: Flow) -> Result<Went, AllocError>
+        requires { IsReadyCore (with_at (seen self.old) (leaves (flow_view flow))) }
+        ensures { IfOk result (λ went. (p : Program) (m : List c.Block) (w : plain.World) → Holds m self.old.memory → Goes p went (with_at (seen self.old) (leaves (flow_view flow))) m w (seen self.new) self.new.memory w) }
+    {
+        match self.pending.pop() {
+            None => match left(self.frame.result, flow) {
+                None => Ok(Went::Over(Ending::Stuck)),
+                Some(v) => Ok(Went::Over(Ending::Returned(v))),
+            },
+            Some(Pending::Rest(more)) => match flow {
+                Flow::Next => {
+                    self.here = Here::Code(more);
+                    Ok(Went::On)
+                }
+                _ => {
+                    self.leave(flow);
+                    Ok(Went::On)
+                }
+            },
+            Some(Pending::Loop(body)) => match flow {
+                Flow::Next | Flow::Continued => {
+                    self.pending.push(Pending::Loop(body))?;
+                    self.here = Here::Code(body);
+                    Ok(Went::Stepped)
+                }
+                Flow::Broke => {
+                    self.leave(Flow::Next);
+                    Ok(Went::On)
+                }
+                Flow::Returned(_) => {
+                    self.leave(flow);
+                    Ok(Went::On)
+                }
+            },
+            Some(Pending::Return {
+                frame,
+                receiver,
+                rest,
+            }) => Ok(self.come_back(flow, frame, receiver, rest)),
+        }
+    }
+}
+
+impl<'a> Machine<'a> {
+    // One statement.
+    fn exec(
+        &mut self,
+        alloc: Global,
+        program: &'a PlacedProgram,
+        world: &mut World,
+        s: &'a PlacedStmt,
+        more: &'a [PlacedStmt],
+    ) -> Result<Went, AllocError>
+        requires fits { IsReadyCore (with_at (seen self.old) (code (do_then (stmt_view s.now) (code_view more.now)))) }
+        requires ready { IsReady (program_view program.now) }
+        requires held { (m : List c.Block) × Holds m self.old.memory }
+        ensures ok { IfOk result (λ went. (m : List c.Block) → Holds m self.old.memory → Goes (program_view program.now) went (with_at (seen self.old) (code (do_then (stmt_view s.now) (code_view more.now)))) m (world_view world.old) (seen self.new) self.new.memory (world_view world.new)) }
+        ensures err { OnErr result (world_view world.new ≡ world_view world.old) }
+    {
+        match s {
+            PlacedStmt::Locals(xs) => {
+                self.clear(xs.as_slice(), more);
+                Ok(Went::On)
+            }
+            PlacedStmt::Assign(x, r) => Ok(self.assign(program, *x, *r, more)),
+            PlacedStmt::Store(kind, p, a) => Ok(self.store(*kind, *p, *a, more)),
+            PlacedStmt::Call(x, t, args) => {
+                self.invoke(alloc, program, world, *x, *t, args.as_slice(), more)
+            }
+            PlacedStmt::If(a, b, d) => self.choose(*a, b.as_slice(), d.as_slice(), more),
+            PlacedStmt::While(body) => {
+                self.begin(body.as_slice(), more)?;
+                Ok(Went::Stepped)
+            }
+            PlacedStmt::Break => {
+                self.leave(Flow::Broke);
+                Ok(Went::On)
+            }
+            PlacedStmt::Continue => {
+                self.leave(Flow::Continued);
+                Ok(Went::On)
+            }
+            PlacedStmt::Return => {
+                self.leave(Flow::Returned(None));
+                Ok(Went::On)
+            }
+            PlacedStmt::ReturnValue(a) => {
+                let v = self.value(*a);
+                self.leave(Flow::Returned(Some(v)));
+                Ok(Went::On)
+            }
+        }
+    }
+
+    // One move.
+    fn go(
+        &mut self,
+        alloc: Global,
+        program: &'a PlacedProgram,
+        world: &mut World,
+    ) -> Result<Went, AllocError>
+        requires fits { IsReadyCore (seen self.old) }
+        requires ready { IsReady (program_view program.now) }
+        requires held { (m : List c.Block) × Holds m self.old.memory }
+        ensures ok { IfOk result (λ went. (m : List c.Block) → Holds m self.old.memory → Goes (program_view program.now) went (seen self.old) m (world_view world.old) (seen self.new) self.new.memory (world_view world.new)) }
+        ensures err { OnErr result (world_view world.new ≡ world_view world.old) }
+    {
+        match self.here {
+            Here::Code(code) => match code {
+                [] => self.arrive(Flow::Next),
+                [s, more @ ..] => self.exec(alloc, program, world, s, more),
+            },
+            Here::Leaves(flow) => self.arrive(flow),
+            Here::Stuck => Ok(Went::Over(Ending::Stuck)),
+        }
+    }
+
+    // Moves until a step was taken or the run ended.
+    pub fn until_step(
+        &mut self,
+        alloc: Global,
+        program: &'a PlacedProgram,
+        world: &mut World,
+    ) -> Result<Option<Ending>, AllocError>
+        requires fits { IsReadyCore (seen self.old) }
+        requires ready { IsReady (program_view program.now) }
+        requires held { (m : List c.Block) × Holds m self.old.memory }
+        ensures ok { IfOk result (λ e. (m : List c.Block) → Holds m self.old.memory → Reaches (program_view program.now) e (seen self.old) m (world_view world.old) (seen self.new) self.new.memory (world_view world.new)) }
+        ensures err { OnErr result (Grows (world_view world.old) (world_view world.new)) }
+    {
+        loop {
+            match self.go(alloc, program, world)? {
+                Went::On => {}
+                Went::Stepped => return Ok(None),
+                Went::Over(e) => return Ok(Some(e)),
+            }
         }
     }
 }
