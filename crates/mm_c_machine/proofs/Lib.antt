@@ -8,3 +8,4 @@ pub mod Giving
 pub mod Arrivals
 pub mod Statements
 pub mod Ways
+pub mod Running

@@ -4,3 +4,4 @@ pub mod State
 pub mod Ready
 pub mod Goes
 pub mod Parts
+pub mod Runs

@@ -135,8 +135,8 @@ fn element(program: &PlacedProgram, array: u32, index: i64) -> Option<Element>
     }
 }
 
-// The function of a number.
-fn function(program: &PlacedProgram, number: u32) -> Option<&PlacedFunction>
+/// The function of a number.
+pub fn function(program: &PlacedProgram, number: u32) -> Option<&PlacedFunction>
     ensures { option_copied result ≡ slice_get program.now.functions number }
 {
     at(program.functions.as_slice(), number as usize)
