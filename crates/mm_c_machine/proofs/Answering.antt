@@ -1,16 +1,14 @@
 -- What a call of a function of the prelude gives, by what the world answers.
-use Rattle.std.proofs.Common.{◌≡◌, ◌≢◌, ℕ, Bool, true, false, List, [], ◌∷◌, Option, Some, None, Result, Ok, Err, refl, sym, ap, ap₂, subst, ◌∙◌, ◌<◌, length, get_or, arith}
+use Rattle.std.proofs.Common.{◌≡◌, ◌≢◌, ℕ, true, List, [], ◌∷◌, Option, Some, None, Result, Ok, Err, refl, sym, ap, ◌∙◌, ◌<◌, length, get_or, arith}
 use Rattle.std.specs.Prelude.{ℤ, pos, negsuc, if◌then◌else◌}
 use Rattle.mm_base.specs.World.{World, call_builtin}
-use Rattle.mm_base.specs.Num.{code_of}
-use Rattle.mm_base.specs.declared.num.Trap.{Trap}
 use Rattle.mm_base.specs.declared.world.Builtin.{Builtin}
 use Rattle.mm_base.specs.declared.world.Builtin.TheVariants.{Put, Get, More}
-use Rattle.mm_meaning.specs.Run.{Run, Gives, Stops, stop}
+use Rattle.mm_meaning.specs.Run.{Gives, Stops, stop}
 use Rattle.mm_c.specs.declared.value.CValue.{CValue}
 use Rattle.mm_c.specs.declared.value.CValue.TheVariants.{Int, Unsigned, Long, Null, At}
 use Rattle.mm_c.specs.Memory as c
-use Rattle.mm_c.specs.CMeaning.{Stop, State, Trapped, Stuck, asks, given_call, ask, answered, ints_in, int_in, with_int, trap, value_of, stuck}
+use Rattle.mm_c.specs.CMeaning.{State, Trapped, Stuck, asks, given_call, ask, answered, ints_in, int_in, with_int, trap, stuck}
 use Rattle.mm_c_memory.specs.declared.memory.Memory.{Memory}
 use Rattle.mm_c_memory.specs.Held.{Holds}
 use Rattle.mm_c_machine.specs.declared.prelude.Refusal.{Refusal}
@@ -19,7 +17,7 @@ use Rattle.mm_c_machine.specs.declared.prelude.Prelude.TheVariants as prelude
 use Rattle.mm_c_machine.specs.Answers.{state, Answers, Asks, PutsInt, are_ints}
 use Rattle.std.proofs.lemmas.Bool.{lt-ltb}
 use Rattle.mm_c.proofs.Bools.{both}
-use Rattle.mm_c_machine.proofs.Ints.{some_ints, no_ints, first_int, first_is_int, nothing_in}
+use Rattle.mm_c_machine.proofs.Ints.{some_ints, first_int, first_is_int, nothing_in}
 
 module _ (m : List c.Block) (held : Memory) (w w' : World) (b : Builtin) (vs : List CValue) where
   asked : (zs ns : List ℤ) → ints_in vs ≡ Some zs → call_builtin b zs w ≡ call_builtin b ns w → (k : ℕ) → given_call (asks b) vs (state m w) k ≡ answered (call_builtin b ns w) (state m w) k
@@ -36,7 +34,6 @@ module _ (m : List c.Block) (held : Memory) (w w' : World) (b : Builtin) (vs : L
 
   pub not_asked : w' ≡ w → ints_in vs ≡ None → Answers (Err refusal.Stuck) (prelude.Asks b) vs m w held w'
   not_asked e is = (e, λ k. ap (λ o. ask b o (state m w) k) is)
-
 
 module _ (m : List c.Block) (held : Memory) (w w' : World) (vs : List CValue) where
   pub puts : (result : Result (Option CValue) Refusal) (v : CValue) → Holds m held → are_ints vs ≡ true → 0 < length vs → v ≡ get_or vs 0 v → PutsInt result v w w' → Answers result (prelude.Asks Put) vs m w held w'
@@ -65,7 +62,7 @@ trap_at (v ∷ u ∷ vs) d k e is = absurd (let x : ⊥ = omega (arith, e) in x)
 module _ (m : List c.Block) (w : World) where
   pub trapped : (vs : List CValue) (d : CValue) (k : ℤ) (n : ℕ) → length vs ≡ 1 → get_or vs 0 d ≡ Int k → k ≡ pos n → 0 < n → n < 256 → (j : ℕ) → trap (ints_in vs) (state m w) j ≡ Stops (Trapped n) (state m w)
   trapped vs d k n e is at low high j =
-      ap (λ f. f (state m w) j) (trap_at vs d k e (is ) ∙ ap (λ q. trap (Some (q ∷ []))) at)
+      ap (λ f. f (state m w) j) (trap_at vs d k e (is) ∙ ap (λ q. trap (Some (q ∷ []))) at)
       ∙ ap (λ b. (if b then stop (Trapped n) else stuck) (state m w) j) (both _ _ (lt-ltb 0 n low) (lt-ltb n 256 high))
 
 trap_many : (a b : Option ℤ) (c : Option (List ℤ)) (s : State) (k : ℕ) → trap (with_int a (with_int b c)) s k ≡ Stops Stuck s

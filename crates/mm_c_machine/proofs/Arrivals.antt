@@ -1,22 +1,21 @@
 -- What a piece of the stack does with how the code before it went on.
-use Rattle.std.proofs.Common.{◌≡◌, ◌≢◌, ℕ, Bool, true, false, List, [], ◌∷◌, length, Option, Some, None, refl, sym, ap, ap₂, ◌∙◌, subst, ◌⊎◌, inl, inr, ⊎_elim, arith}
+use Rattle.std.proofs.Common.{◌≡◌, ◌≢◌, Bool, true, false, List, [], ◌∷◌, Option, Some, None, refl, sym, ap, ap₂, ◌∙◌, subst, ◌⊎◌, inl, inr, arith}
 use Rattle.mm_base.specs.World.{World}
-use Rattle.mm_meaning.specs.Run.{Run, Gives, Stops, then}
+use Rattle.mm_meaning.specs.Run.{Run, then}
 use Rattle.mm_c.specs.declared.value.CValue.{CValue}
-use Rattle.mm_c.specs.declared.tree.CKind.{CKind}
 use Rattle.mm_c.specs.Memory as c
-use Rattle.mm_c.specs.CMeaning.{Stop, Stuck, State, or_stuck, left_by, fitted_in, Flow, Next, Broke, Continued, Returned}
+use Rattle.mm_c.specs.CMeaning.{Stop, Stuck, State, or_stuck, left_by, fitted_in, Flow, Next, Broke, Returned}
 use Rattle.mm_c_placed.specs.declared.tree.Local.{Local}
 use Rattle.mm_c.specs.declared.value.CCell.{CCell}
 use Rattle.mm_c_placed.specs.declared.tree.Address.{Address}
 use Rattle.mm_c_placed.specs.declared.tree.Operand.{Operand}
 use Rattle.mm_c_placed.specs.Tree.{Code, do_then, store, Program}
-use Rattle.mm_c_placed.specs.Meaning.{Store, start, operand_of, receive, flows_of}
+use Rattle.mm_c_placed.specs.Meaning.{start, operand_of, receive, flows_of}
 use Rattle.mm_c_memory.specs.declared.memory.Memory.{Memory}
 use Rattle.mm_c_memory.specs.Held.{Holds, Stores}
 use Rattle.mm_c_machine.specs.Answers.{state}
 use Rattle.mm_c_machine.specs.State.{Level, Piece, rest, loop, ret, At, code, leaves, Core, with_at, flow_view, store_of}
-use Rattle.mm_c_machine.specs.Ready.{IsReadyCore, most_in, weight_after}
+use Rattle.mm_c_machine.specs.Ready.{IsReadyCore}
 use Rattle.mm_c_machine.specs.Goes.{follows, means, around, back, HasStop, GoesFurther, Ends, Received}
 use Rattle.mm_c_machine.specs.Goes as goes
 use Rattle.mm_c_machine.specs.declared.machine.Ending.TheVariants as ending
@@ -68,17 +67,22 @@ module _ (p : Program) (l : Level) (m : List c.Block) (w : World) where
       same = λ k. ap (λ q. after (q (state m w) k)) e ∙ receive_same p g ps a x v d s' got h.after.0 (state m w) k;
       less = let n = receive_weight p g ps a x v d s' got in omega (arith, n);
       ready = receive_ready p g ps a x v d s' got h.after.1 h.after.2;
-      grows = as_before w }
+      grows = as_before w;
+    }
 
     pub back_stuck : left_by l.result f ≡ or_stuck None → Ends p ending.Stuck at m w w
     back_stuck e = record { same = λ k. (m, ap (λ q. after (q (state m w) k)) e ∙ follows_stops p g.result g.is_inline ps Stuck (store_of g (state m w))); grows = as_before w }
 
     pub back_lost : (v : Option CValue) (a : At) (s' : Core) → left_by l.result f ≡ or_stuck (Some v) → Received false x v (core a g ps) d s' → Ends p ending.Stuck at m w w
     back_lost v a s' e lost = record {
-      same = λ k. (m, ap (λ q. after (q (state m w) k)) e
-        ∙ ap (λ q. follows p g.result g.is_inline ps ((then) q (λ u. flows_of (around p g.is_inline) d))) (receive_stuck p g ps a x v d s' lost (store_of g (state m w)) k)
-        ∙ follows_stops p g.result g.is_inline ps Stuck (store_of g (state m w)));
-      grows = as_before w }
+      same = λ k. (
+        m,
+        ap (λ q. after (q (state m w) k)) e
+            ∙ ap (λ q. follows p g.result g.is_inline ps ((then) q (λ u. flows_of (around p g.is_inline) d))) (receive_stuck p g ps a x v d s' lost (store_of g (state m w)) k)
+            ∙ follows_stops p g.result g.is_inline ps Stuck (store_of g (state m w)),
+      );
+      grows = as_before w;
+    }
 
     pub back_goes_at : (v : Option CValue) (a : At) (held held' : Memory) (s0 s' : Core) (b : Bool) → left_by l.result f ≡ or_stuck (Some v) → Holds m held → held' ≡ held → IsReadyCore at → s0 ≡ core a g ps → Received b x v s0 d s' → b ≡ true → GoesFurther p at m w s' held' w
     back_goes_at v a held held' s0 s' b e holds kept h same got is_so =
@@ -97,7 +101,7 @@ module _ (p : Program) (l : Level) (m : List c.Block) (w : World) where
   loop_again_at held f q d ps s' holds e is to h =
       subst (λ s. goes.Steps p (core (leaves (flow_view f)) l q) m w s held w) (sym to)
       (subst (λ q. goes.Steps p (core (leaves (flow_view f)) l q) m w (core (code d) l (loop d ∷ ps)) held w) (sym is)
-        (loop_again ps held holds f d e (subst (λ q. IsReadyCore (core (leaves (flow_view f)) l q)) is h)))
+      (loop_again ps held holds f d e (subst (λ q. IsReadyCore (core (leaves (flow_view f)) l q)) is h)))
 
 stored_some : (o : Option (List c.Block)) (held : Memory) → Stores true o held → (m : List c.Block) × ((o ≡ Some m) × Holds m held)
 stored_some None held h = absurd h

@@ -1,6 +1,6 @@
 -- Frames on one list of values.
 use Rattle.std.proofs.Common.{◌≡◌, ℕ, zero, suc, ◌+◌, ◌-◌, ◌<◌, ◌≤◌, List, [], ◌∷◌, ◌++◌, length, get_or, take, drop, set, replicate, map, All, refl, append_assoc, sym, ap, ap₂, subst, ◌∙◌, arith}
-use Rattle.std.specs.Prelude.{Bool, true, false, if◌then◌else◌, nat_eq, pos}
+use Rattle.std.specs.Prelude.{if◌then◌else◌, nat_eq, pos}
 use Rattle.std.proofs.lemmas.List.{get_or-drop, take-set-le, drop-set-add, get_or_default, drop-append-le, append-nil, take_more, map-append, get_or-set_same, get_or-set_other, length-drop, length-append, length-replicate, length-set, length-map, take_all}
 use Rattle.mm_c.specs.declared.value.CValue.{CValue}
 use Rattle.mm_c.specs.declared.value.CValue.TheVariants.{Int}
@@ -9,7 +9,7 @@ use Rattle.mm_c.specs.CMeaning.{fitted, zero_of}
 use Rattle.mm_c_placed.specs.declared.tree.Operand.{Operand}
 use Rattle.mm_c_placed.specs.declared.tree.Operand.TheVariants.{Place, Value}
 use Rattle.mm_c_placed.specs.declared.tree.Local.{Local}
-use Rattle.mm_c_placed.specs.Meaning.{Frame, start, with_place, zeroed, operand_of}
+use Rattle.mm_c_placed.specs.Meaning.{start, with_place, zeroed, operand_of}
 use Rattle.mm_c_placed.specs.Ready.{IsInOperand, AreIn}
 use Rattle.mm_c_machine.specs.Frames.{fitted_all, with_zeros}
 
@@ -76,7 +76,8 @@ filling_more old len values more h lt e =
     record {
       n = suc h.n;
       is = e ∙ ap (λ q. q ++ nought ∷ []) h.is ∙ append_assoc old (replicate h.n nought) (nought ∷ []) ∙ ap (λ q. old ++ q) (zeros_more h.n);
-      most = omega (arith, long, lt) }
+      most = omega (arith, long, lt);
+    }
 
 pub filling_end : (old : List CValue) (len : ℕ) (values : List CValue) → IsFilling old len values → len ≤ length values → values ≡ old ++ replicate (len - length old) nought
 filling_end old len values h le =

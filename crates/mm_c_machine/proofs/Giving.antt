@@ -1,5 +1,5 @@
 -- A call, by what its parts give.
-use Rattle.std.proofs.Common.{◌≡◌, ◌≢◌, ◌⊎◌, ℕ, zero, suc, ◌<◌, get_or, All, arith, Bool, true, false, List, [], ◌∷◌, length, map, Option, Some, None, Result, Ok, Err, refl, sym, ap, ◌∙◌, subst, ⊎_elim, slice_get}
+use Rattle.std.proofs.Common.{◌≡◌, ℕ, zero, suc, ◌<◌, get_or, arith, Bool, true, false, List, [], ◌∷◌, length, map, Option, Some, None, Result, Ok, Err, sym, ap, ◌∙◌, subst, ⊎_elim, slice_get}
 use Rattle.mm_base.specs.World.{World}
 use Rattle.mm_c.specs.declared.value.CValue.{CValue}
 use Rattle.mm_c.specs.Memory as c
@@ -24,14 +24,14 @@ use Rattle.mm_c_memory.specs.Held.{Holds}
 use Rattle.mm_c_machine.specs.Answers.{Answers, state, callee_of, given_of}
 use Rattle.mm_c_machine.specs.declared.prelude.Prelude.{Prelude}
 use Rattle.mm_c_machine.specs.declared.prelude.Refusal.TheVariants as refusal
-use Rattle.mm_c_machine.specs.State.{Core, with_at, code, store_of}
+use Rattle.mm_c_machine.specs.State.{Core, with_at, code}
 use Rattle.mm_c_machine.specs.Ready.{IsReadyCore}
 use Rattle.mm_c_machine.specs.Goes.{GoesFurther, Ends, Goes, Received, Entered, IsInto, IsCalled, around}
 use Rattle.mm_c_machine.specs.Goes as goes
 use Rattle.mm_c_machine.specs.declared.machine.Went.{Went}
 use Rattle.mm_c_machine.specs.declared.machine.Went.TheVariants as went
 use Rattle.mm_c_machine.specs.declared.machine.Ending.TheVariants as ending
-use Rattle.mm_c_machine.proofs.Moves.{prelude_goes, prelude_stops, prelude_lost, as_before, call_steps, call_steps_stuck, inline_goes, inline_stuck_goes, inline_in_inline, no_callee, no_function}
+use Rattle.mm_c_machine.proofs.Moves.{prelude_goes, prelude_stops, prelude_lost, as_before, call_steps, call_steps_stuck, inline_goes, inline_stuck_goes, inline_in_inline}
 use Rattle.mm_c_machine.proofs.Growth.{given_grows}
 
 module _ (p : Program) (s : Core) (m : List c.Block) (w : World) (x : Option Local) (t : Target) (as_ : List Operand) (more : Code) where
@@ -46,7 +46,7 @@ module _ (p : Program) (s : Core) (m : List c.Block) (w : World) (x : Option Loc
       let got1 = subst (λ b. Received b x v s0 more s') is_so got in
       let got2 = subst (λ s. Received true x v s more s') same got1 in
       prelude_goes p s.level s.pieces m w x t as_ more q v a.0 w' held' s.at s' is ready (subst (Holds a.0) (sym kept) a.1.0)
-        (given_grows (given_of q) args m a.0 w w' v 0 (a.1.1 0)) a.1.1 got2
+      (given_grows (given_of q) args m a.0 w w' v 0 (a.1.1 0)) a.1.1 got2
 
   pub gives_lost : (q : Prelude) (v : Option CValue) (w' : World) (held : Memory) (s0 s' : Core) (b : Bool) → IsCalled p s (state m w) t (callee_of q) → Answers (Ok v) q args m w held w' → s0 ≡ s → Received b x v s0 more s' → b ≡ false → Ends p ending.Stuck called m w w'
   gives_lost q v w' held s0 s' b is a same got is_so =
@@ -96,6 +96,6 @@ function_fits p n g h e = let k = got p.functions n g e in subst IsReadyFunction
 
 -- a function of the program, where memory was there for it
 pub enters_if : (p : Program) (s : Core) (w : World) (x : Option Local) (as_ : List Operand) (more : Code) (result : Result Went AllocError) (f : Callee) (n : ℕ) (g : Function) (s' : Core) (held held' : Memory) → held' ≡ held → f ≡ callee_is.Function n → slice_get p.functions n ≡ Some g → IsReady p → IfOk result (λ went. Entered went s x more (map (operand_of (start s.level.values)) as_) g s') →
-  IfOk result (λ went. (t : Target) (m : List c.Block) → Holds m held → IsReadyCore (with_at s (code (do_then (run x t as_) more))) → IsCalled p s (state m w) t f → Goes p went (with_at s (code (do_then (run x t as_) more))) m w s' held' w)
+    IfOk result (λ went. (t : Target) (m : List c.Block) → Holds m held → IsReadyCore (with_at s (code (do_then (run x t as_) more))) → IsCalled p s (state m w) t f → Goes p went (with_at s (code (do_then (run x t as_) more))) m w s' held' w)
 enters_if p s w x as_ more (Ok went) f n g s' held held' kept e there ready h = λ t m holds fits is. enters p s m w x t as_ more went n g s' held held' holds kept fits (is ∙ ap Some e) there (function_fits p n g ready there) h
 enters_if p s w x as_ more (Err z) f n g s' held held' kept e there ready h = tt

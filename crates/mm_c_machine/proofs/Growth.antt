@@ -1,9 +1,8 @@
 -- What was put stays, whatever is called.
-use Rattle.std.proofs.Common.{◌≡◌, ℕ, zero, suc, List, [], ◌∷◌, ◌++◌, Option, Some, None, Result, Ok, Err, refl, sym, ap, ◌∙◌, subst, append_assoc}
+use Rattle.std.proofs.Common.{◌≡◌, ℕ, zero, suc, List, [], ◌∷◌, ◌++◌, Option, Some, None, refl, sym, ap, ◌∙◌, subst, append_assoc}
 use Rattle.std.specs.Prelude.{ℤ, pos, negsuc, Bool, true, false, if◌then◌else◌, slice_get, ◌&&◌, nat_lt}
 use Rattle.std.proofs.lemmas.List.{append-nil}
-use Rattle.mm_base.specs.World.{World, call_builtin, got, with_put}
-use Rattle.mm_base.specs.declared.num.Trap.{Trap}
+use Rattle.mm_base.specs.World.{World, call_builtin, got}
 use Rattle.mm_base.specs.declared.world.Builtin.{Builtin}
 use Rattle.mm_base.specs.declared.world.Builtin.TheVariants.{Put, Get, More}
 use Rattle.mm_meaning.specs.Run.{Run, Gives, Stops, stop}

@@ -1,9 +1,9 @@
 -- Values that are all of type `int`.
-use Rattle.std.proofs.Common.{◌≡◌, ℕ, zero, suc, ◌<◌, ◌≤◌, ◌+◌, Bool, true, false, ◌&&◌, List, [], ◌∷◌, length, get_or, drop, Option, Some, None, refl, sym, ap, ◌∙◌, arith}
+use Rattle.std.proofs.Common.{◌≡◌, ℕ, zero, suc, ◌<◌, ◌≤◌, ◌+◌, true, false, ◌&&◌, List, [], ◌∷◌, length, get_or, drop, Some, None, refl, sym, ap, ◌∙◌, arith}
 use Rattle.std.specs.Prelude.{ℤ}
 use Rattle.mm_c.specs.declared.value.CValue.{CValue}
 use Rattle.mm_c.specs.declared.value.CValue.TheVariants.{Int, Unsigned, Long, Null, At}
-use Rattle.mm_c.specs.CMeaning.{int_in, ints_in, with_int}
+use Rattle.mm_c.specs.CMeaning.{ints_in, with_int}
 use Rattle.mm_c_machine.specs.Answers.{are_ints, is_int_value}
 
 -- the test of the values from one on

@@ -1,5 +1,5 @@
 -- What each move does to the meaning.
-use Rattle.std.proofs.Common.{◌≡◌, ◌≢◌, ℕ, zero, suc, ◌+◌, ◌-◌, ◌<◌, ◌≤◌, Bool, true, false, List, [], ◌∷◌, ◌++◌, length, get_or, set, replicate, map, All, Option, Some, None, refl, sym, ap, ap₂, ◌∙◌, subst, arith, if◌then◌else◌, slice_get}
+use Rattle.std.proofs.Common.{◌≡◌, ◌≢◌, ℕ, zero, suc, ◌+◌, ◌-◌, ◌≤◌, Bool, true, false, List, [], ◌∷◌, ◌++◌, length, get_or, replicate, map, Option, Some, None, refl, sym, ap, ◌∙◌, subst, arith, if◌then◌else◌, slice_get}
 use Rattle.std.specs.Prelude.{ℤ, pos, negsuc}
 use Rattle.std.proofs.lemmas.List.{length-set, length-append, length-replicate, append-nil}
 use Rattle.mm_base.specs.World.{World}
@@ -9,7 +9,7 @@ use Rattle.mm_c.specs.declared.value.CValue.{CValue}
 use Rattle.mm_c.specs.declared.value.CValue.TheVariants.{Int, Unsigned, Long, Null, At}
 use Rattle.mm_c.specs.declared.tree.CKind.{CKind}
 use Rattle.mm_c.specs.Memory as c
-use Rattle.mm_c.specs.CMeaning.{Stop, Trapped, Spent, Stuck, State, From, or_stuck, fitted, fitted_in, zero_of, Flow, Next, Broke, Continued, Returned, left_by, given_call}
+use Rattle.mm_c.specs.CMeaning.{Stop, Spent, Stuck, State, From, or_stuck, fitted, fitted_in, Flow, Next, Continued, given_call}
 use Rattle.mm_c_placed.specs.declared.tree.Operand.{Operand}
 use Rattle.mm_c_placed.specs.declared.tree.Address.{Address}
 use Rattle.mm_c_placed.specs.declared.tree.Operand.TheVariants.{Place, Value}
@@ -23,8 +23,8 @@ use Rattle.mm_c_placed.specs.declared.tree.Target.{Target}
 use Rattle.mm_c_placed.specs.declared.tree.Target.TheVariants as target_is
 use Rattle.mm_c_placed.specs.declared.tree.Local.{Local}
 use Rattle.mm_c_placed.specs.Tree.{Stmt, locals, assign, store, run, if_else, forever, break, continue, leave, return, Code, done, do_then, Function, Program}
-use Rattle.mm_c_placed.specs.Meaning.{Store, start, operand_of, Around, value_in, callee_in, set_place, receive, stored, unless_left, next_turn, if_zero, called, call_of, flow_of, flows_of, end_of, given, enter, at_function, Steps, plain_entry, any_entry, around_all, around_in, now}
-use Rattle.mm_c_placed.specs.Ready.{IsIn, IsInStmt, IsInResult, IsInOperand, IsInIndex, IsInRight, IsInTarget, AreIn}
+use Rattle.mm_c_placed.specs.Meaning.{Store, start, operand_of, Around, value_in, callee_in, set_place, receive, stored, unless_left, next_turn, if_zero, called, call_of, flow_of, flows_of, end_of, given, enter, at_function, Steps, plain_entry, any_entry, around_in, now}
+use Rattle.mm_c_placed.specs.Ready.{IsIn, IsInStmt, IsInResult, IsInOperand, IsInIndex, IsInRight, IsInTarget}
 use Rattle.mm_c_placed.proofs.Deep.{now_step, forever_step, steady_in}
 use Rattle.mm_c_memory.specs.declared.memory.Memory.{Memory}
 use Rattle.mm_c_memory.specs.Held.{Holds}
@@ -32,8 +32,8 @@ use Rattle.mm_c_machine.specs.Frames.{fitted_all, with_zeros}
 use Rattle.mm_c_machine.specs.Answers.{state, given_of, callee_of}
 use Rattle.mm_c_machine.specs.declared.prelude.Prelude.{Prelude}
 use Rattle.mm_c_machine.specs.declared.prelude.Prelude.TheVariants as prelude
-use Rattle.mm_c_machine.specs.State.{Level, Piece, rest, loop, ret, At as First, code, leaves, no_way, Core, with_at, with_piece, with_level, with_values, with_local, entered, store_of}
-use Rattle.mm_c_machine.specs.Ready.{IsInAt, AreReady, IsReadyCore, size_of, size, sum_sizes, most_in, weight_at, weight_after, weight}
+use Rattle.mm_c_machine.specs.State.{Level, Piece, rest, loop, ret, At as First, code, leaves, no_way, Core, with_at, with_values, with_local, entered, store_of}
+use Rattle.mm_c_machine.specs.Ready.{AreReady, IsReadyCore, size, sum_sizes, most_in, weight_after, weight}
 use Rattle.mm_c_machine.specs.Goes.{calls_in, around, starts, back, follows, means, HasStop, HasEnd, Grows, GoesFurther, Ends, Received}
 use Rattle.mm_c_machine.specs.Goes as goes
 use Rattle.mm_c_machine.specs.declared.machine.Ending.TheVariants as ending
@@ -94,22 +94,25 @@ module _ (p : Program) (l : Level) (ps : List Piece) (m : List c.Block) (w : Wor
     same = λ k. ap (λ f. on (flows_of A more (record { frame = f; state = state m w }) k)) (sym (start-cleared xs l.values h.here.0));
     less = omega arith;
     ready = record { here = rw (length-cleared xs l.values) h.here.1; after = rw (length-cleared xs l.values) h.after };
-    grows = as_before w }
+    grows = as_before w;
+  }
 
   pub assign_goes : (x : Local) (r : Right) (v : CValue) (more : Code) (held : Memory) → Holds m held → IsReadyCore (core (code (do_then (assign x r) more)) l ps) → value_in A here r ≡ Some v → GoesFurther p (core (code (do_then (assign x r) more)) l ps) m w (with_at (with_local (core (code done) l ps) x v) (code more)) held w
   assign_goes x r v more held holds h e = record {
     to = m;
     holds = holds;
     same = λ k. ap (λ o. on ((then) ((then) (or_stuck o here k) (λ v. set_place x v >>= (λ u. pure Next))) (λ flow. unless_left flow (flows_of A more)))) e
-      ∙ ap (λ f. on (flows_of A more (record { frame = f; state = state m w }) k)) (sym (start-set l.values x.place (fitted x.kind v) h.here.0.0));
+        ∙ ap (λ f. on (flows_of A more (record { frame = f; state = state m w }) k)) (sym (start-set l.values x.place (fitted x.kind v) h.here.0.0));
     less = omega arith;
     ready = record { here = rw (length-set l.values x.place (fitted x.kind v)) h.here.1; after = rw (length-set l.values x.place (fitted x.kind v)) h.after };
-    grows = as_before w }
+    grows = as_before w;
+  }
 
   pub assign_stuck : (x : Local) (r : Right) (more : Code) → value_in A here r ≡ None → Ends p ending.Stuck (core (code (do_then (assign x r) more)) l ps) m w w
   assign_stuck x r more e = record {
     same = λ k. subst (λ o. HasStop Stuck w (on ((then) ((then) (or_stuck o here k) (λ v. set_place x v >>= (λ u. pure Next))) (λ flow. unless_left flow (flows_of A more))))) (sym e) (stopped Stuck);
-    grows = as_before w }
+    grows = as_before w;
+  }
 
   pub store_goes : (kind : CCell) (a : Address) (v : Operand) (more : Code) (m' : List c.Block) (held : Memory) → Holds m' held → IsReadyCore (core (code (do_then (store kind a v) more)) l ps) → c.store m kind (start l.values a.pointer) a.offset (fitted_in kind (operand_of (start l.values) v)) ≡ Some m' → GoesFurther p (core (code (do_then (store kind a v) more)) l ps) m w (core (code more) l ps) held w
   store_goes kind a v more m' held holds h e = record {
@@ -118,12 +121,14 @@ module _ (p : Program) (l : Level) (ps : List Piece) (m : List c.Block) (w : Wor
     same = λ k. ap (λ o. on ((then) ((then) (stored o here k) (λ u. pure Next)) (λ flow. unless_left flow (flows_of A more)))) e;
     less = omega arith;
     ready = record { here = h.here.1; after = h.after };
-    grows = as_before w }
+    grows = as_before w;
+  }
 
   pub store_stuck : (kind : CCell) (a : Address) (v : Operand) (more : Code) → c.store m kind (start l.values a.pointer) a.offset (fitted_in kind (operand_of (start l.values) v)) ≡ None → Ends p ending.Stuck (core (code (do_then (store kind a v) more)) l ps) m w w
   store_stuck kind a v more e = record {
     same = λ k. subst (λ o. HasStop Stuck w (on ((then) ((then) (stored o here k) (λ u. pure Next)) (λ flow. unless_left flow (flows_of A more))))) (sym e) (stopped Stuck);
-    grows = as_before w }
+    grows = as_before w;
+  }
 
   -- ---- choices
 
@@ -145,7 +150,8 @@ module _ (p : Program) (l : Level) (ps : List Piece) (m : List c.Block) (w : Wor
     same = λ k. ap (λ f. chosen f more k) (zero_takes (operand_of (start l.values) a) b d e);
     less = omega arith;
     ready = record { here = h.here.0.2; after = (h.here.1, h.after) };
-    grows = as_before w }
+    grows = as_before w;
+  }
 
   pub then_goes : (a : Operand) (z : ℤ) (b d more : Code) (held : Memory) → Holds m held → IsReadyCore (core (code (do_then (if_else a b d) more)) l ps) → operand_of (start l.values) a ≡ Int z → z ≢ pos 0 → GoesFurther p (core (code (do_then (if_else a b d) more)) l ps) m w (core (code b) l (rest more ∷ ps)) held w
   then_goes a z b d more held holds h e n = record {
@@ -154,7 +160,8 @@ module _ (p : Program) (l : Level) (ps : List Piece) (m : List c.Block) (w : Wor
     same = λ k. ap (λ f. chosen f more k) (ap (λ q. if_zero q (flows_of A d) (flows_of A b)) e ∙ other_takes z b d n);
     less = omega arith;
     ready = record { here = h.here.0.1; after = (h.here.1, h.after) };
-    grows = as_before w }
+    grows = as_before w;
+  }
 
   not_chosen : (v : CValue) (b d more : Code) (k : ℕ) → ((z : ℤ) → v ≡ Int z → ⊥) → HasStop Stuck w (chosen (if_zero v (flows_of A d) (flows_of A b)) more k)
   not_chosen (Int z) b d more k other = absurd (other z refl)
@@ -166,7 +173,8 @@ module _ (p : Program) (l : Level) (ps : List Piece) (m : List c.Block) (w : Wor
   pub if_stuck : (a : Operand) (v : CValue) (b d more : Code) → v ≡ operand_of (start l.values) a → ((z : ℤ) → v ≡ Int z → ⊥) → Ends p ending.Stuck (core (code (do_then (if_else a b d) more)) l ps) m w w
   if_stuck a v b d more e other = record {
     same = λ k. subst (λ q. HasStop Stuck w (chosen (if_zero q (flows_of A d) (flows_of A b)) more k)) e (not_chosen v b d more k other);
-    grows = as_before w }
+    grows = as_before w;
+  }
 
   -- ---- loops, and ways on
 
@@ -177,7 +185,8 @@ module _ (p : Program) (l : Level) (ps : List Piece) (m : List c.Block) (w : Wor
     same = λ k. ap (λ q. on ((then) q (λ flow. unless_left flow (flows_of A more)))) (loop_step p l.is_inline b here k);
     spent = stopped Spent;
     ready = record { here = h.here.0; after = (h.here.0, (h.here.1, h.after)) };
-    grows = as_before w }
+    grows = as_before w;
+  }
 
   pub turn_goes : (b : Code) (held : Memory) → Holds m held → IsReadyCore (core (leaves Next) l (loop b ∷ ps)) → goes.Steps p (core (leaves Next) l (loop b ∷ ps)) m w (core (code b) l (loop b ∷ ps)) held w
   turn_goes b held holds h = record {
@@ -186,7 +195,8 @@ module _ (p : Program) (l : Level) (ps : List Piece) (m : List c.Block) (w : Wor
     same = λ k. ap on (loop_step p l.is_inline b here k);
     spent = stopped Spent;
     ready = record { here = h.after.0; after = h.after };
-    grows = as_before w }
+    grows = as_before w;
+  }
 
   pub again_goes : (b : Code) (held : Memory) → Holds m held → IsReadyCore (core (leaves Continued) l (loop b ∷ ps)) → goes.Steps p (core (leaves Continued) l (loop b ∷ ps)) m w (core (code b) l (loop b ∷ ps)) held w
   again_goes b held holds h = record {
@@ -195,7 +205,8 @@ module _ (p : Program) (l : Level) (ps : List Piece) (m : List c.Block) (w : Wor
     same = λ k. ap on (loop_step p l.is_inline b here k);
     spent = stopped Spent;
     ready = record { here = h.after.0; after = h.after };
-    grows = as_before w }
+    grows = as_before w;
+  }
 
 -- ---- what a call leaves
 
@@ -370,7 +381,8 @@ module _ (p : Program) (l : Level) (ps : List Piece) (m : List c.Block) (w : Wor
   pub no_callee : callee_in C (store_of l (state m w)) t ≡ None → Ends p ending.Stuck at m w w
   no_callee e = record {
     same = stops_so Stuck (λ k. Stops Stuck (state m w)) (λ k. run_means k ∙ ap (λ o. after (called C o args (state m w) k)) e) (λ k. refl);
-    grows = as_before w }
+    grows = as_before w;
+  }
 
   -- ---- the prelude
 
@@ -379,11 +391,12 @@ module _ (p : Program) (l : Level) (ps : List Piece) (m : List c.Block) (w : Wor
     to = m';
     holds = holds;
     same = λ k. called_means (callee_of q) e k
-      ∙ ap (λ (f : List CValue → From State (Option CValue)). after (f args (state m w) k)) (λ i vs. calls_prelude p l.is_inline q vs i)
-      ∙ ap after (is k) ∙ receive_same p l ps a x v more s' got h.here.0.0 (state m' w') k;
+        ∙ ap (λ (f : List CValue → From State (Option CValue)). after (f args (state m w) k)) (λ i vs. calls_prelude p l.is_inline q vs i)
+        ∙ ap after (is k) ∙ receive_same p l ps a x v more s' got h.here.0.0 (state m' w') k;
     less = let n = receive_weight p l ps a x v more s' got in omega (arith, n);
     ready = receive_ready p l ps a x v more s' got h.here.1 h.after;
-    grows = grows }
+    grows = grows;
+  }
 
   prelude_means : (q : Prelude) (r : ℕ → Run Stop State (Option CValue)) → callee_in C (store_of l (state m w)) t ≡ Some (callee_of q) → ((k : ℕ) → given_call (given_of q) args (state m w) k ≡ r k) → (k : ℕ) → means p at (state m w) k ≡ after (r k)
   prelude_means q r e is k =
@@ -397,10 +410,14 @@ module _ (p : Program) (l : Level) (ps : List Piece) (m : List c.Block) (w : Wor
   -- a result that nothing receives where one is waited for
   pub prelude_lost : (q : Prelude) (v : Option CValue) (m' : List c.Block) (w' : World) (a : First) (s' : Core) → callee_in C (store_of l (state m w)) t ≡ Some (callee_of q) → Grows w w' → ((k : ℕ) → given_call (given_of q) args (state m w) k ≡ Gives v (state m' w') k) → Received false x v (core a l ps) more s' → Ends p ending.Stuck at m w w'
   prelude_lost q v m' w' a s' e grows is lost = record {
-    same = λ k. (m', prelude_means q (λ k. Gives v (state m' w') k) e is k
-      ∙ ap (λ r. follows p l.result l.is_inline ps ((then) r (λ u. flows_of C more))) (receive_stuck p l ps a x v more s' lost (store_of l (state m' w')) k)
-      ∙ follows_stops p l.result l.is_inline ps Stuck (store_of l (state m' w')));
-    grows = grows }
+    same = λ k. (
+      m',
+      prelude_means q (λ k. Gives v (state m' w') k) e is k
+          ∙ ap (λ r. follows p l.result l.is_inline ps ((then) r (λ u. flows_of C more))) (receive_stuck p l ps a x v more s' lost (store_of l (state m' w')) k)
+          ∙ follows_stops p l.result l.is_inline ps Stuck (store_of l (state m' w')),
+    );
+    grows = grows;
+  }
 
   -- ---- functions of the program
 
@@ -412,12 +429,14 @@ module _ (p : Program) (l : Level) (ps : List Piece) (m : List c.Block) (w : Wor
   pub no_function : (f : ℕ) → callee_in C (store_of l (state m w)) t ≡ Some (callee_is.Function f) → slice_get p.functions f ≡ None → Ends p ending.Stuck at m w w
   no_function f e is = record {
     same = stops_so Stuck (λ k. Stops Stuck (state m w)) (function_means f None e is) (λ k. refl);
-    grows = as_before w }
+    grows = as_before w;
+  }
 
   pub inline_in_inline : (f : ℕ) (g : Function) → callee_in C (store_of l (state m w)) t ≡ Some (callee_is.Function f) → slice_get p.functions f ≡ Some g → g.is_inline ≡ true → l.is_inline ≡ true → Ends p ending.Stuck at m w w
   inline_in_inline f g e is i j = record {
     same = stops_so Stuck (λ k. entry_in p l.is_inline g args (state m w) k) (function_means f (Some g) e is) (inline_stuck p l.is_inline g args i j (state m w));
-    grows = as_before w }
+    grows = as_before w;
+  }
 
   abbrev into : Function → Core
   into g = entered at x more (fitted_all g.params args) g.slots g.result g.is_inline g.body
@@ -425,7 +444,8 @@ module _ (p : Program) (l : Level) (ps : List Piece) (m : List c.Block) (w : Wor
   into_ready : (g : Function) → IsReadyCore at → IsIn g.slots g.body → IsReadyCore (into g)
   into_ready g h fits = record {
     here = wider g.slots _ g.body (long_enough (fitted_all g.params args) g.slots) fits;
-    after = (h.here.0.0, h.here.1, h.after) }
+    after = (h.here.0.0, h.here.1, h.after);
+  }
 
   body_means : (g : Function) (i : Bool) (k : ℕ) → length args ≡ length g.params → i ≡ g.is_inline → after (enter (around p i) g args (state m w) k) ≡ means p (into g) (state m w) k
   body_means g i k e same =
@@ -437,23 +457,25 @@ module _ (p : Program) (l : Level) (ps : List Piece) (m : List c.Block) (w : Wor
     to = m;
     holds = holds;
     same = λ k. function_means f (Some g) e is (suc k)
-      ∙ ap (λ (q : From State (Option CValue)). after (q (state m w) (suc k))) (enters_step p l.is_inline g args i)
-      ∙ ap after (now_step p g args (state m w) k)
-      ∙ body_means g false k many (sym i);
+        ∙ ap (λ (q : From State (Option CValue)). after (q (state m w) (suc k))) (enters_step p l.is_inline g args i)
+        ∙ ap after (now_step p g args (state m w) k)
+        ∙ body_means g false k many (sym i);
     spent = subst (HasStop Spent w) (sym (function_means f (Some g) e is 0 ∙ ap (λ (q : From State (Option CValue)). after (q (state m w) 0)) (enters_step p l.is_inline g args i))) (after_stop Spent);
     ready = into_ready g h fits;
-    grows = as_before w }
+    grows = as_before w;
+  }
 
   pub call_steps_stuck : (f : ℕ) (g : Function) (held : Memory) → callee_in C (store_of l (state m w)) t ≡ Some (callee_is.Function f) → slice_get p.functions f ≡ Some g → g.is_inline ≡ false → IsReadyCore at → length args ≢ length g.params → Holds m held → goes.Steps p at m w (core no_way l ps) held w
   call_steps_stuck f g held e is i h many holds = record {
     to = m;
     holds = holds;
     same = λ k. function_means f (Some g) e is (suc k)
-      ∙ ap (λ (q : From State (Option CValue)). after (q (state m w) (suc k))) (enters_step p l.is_inline g args i)
-      ∙ ap after (now_step p g args (state m w) k ∙ not_entered p false g args (state m w) k many);
+        ∙ ap (λ (q : From State (Option CValue)). after (q (state m w) (suc k))) (enters_step p l.is_inline g args i)
+        ∙ ap after (now_step p g args (state m w) k ∙ not_entered p false g args (state m w) k many);
     spent = subst (HasStop Spent w) (sym (function_means f (Some g) e is 0 ∙ ap (λ (q : From State (Option CValue)). after (q (state m w) 0)) (enters_step p l.is_inline g args i))) (after_stop Spent);
     ready = record { here = tt; after = h.after };
-    grows = as_before w }
+    grows = as_before w;
+  }
 
   inline_means : (f : ℕ) (g : Function) → callee_in C (store_of l (state m w)) t ≡ Some (callee_is.Function f) → slice_get p.functions f ≡ Some g → g.is_inline ≡ true → l.is_inline ≡ false → (k : ℕ) → means p at (state m w) k ≡ after (enter (around p true) g args (state m w) k)
   inline_means f g e is i j k = function_means f (Some g) e is k ∙ ap (λ (q : From State (Option CValue)). after (q (state m w) k)) (enters_inline p l.is_inline g args i j)
@@ -464,12 +486,13 @@ module _ (p : Program) (l : Level) (ps : List Piece) (m : List c.Block) (w : Wor
     holds = holds;
     same = λ k. inline_means f g e is i j k ∙ body_means g true k many (sym i);
     less =
-      let a = among p.functions f g is in
-      let b = ap (λ q. size (most_in p q) g.body) i in
-      let d = ap (most_in p) j in
-      omega (arith, a, b, d);
+        let a = among p.functions f g is in
+        let b = ap (λ q. size (most_in p q) g.body) i in
+        let d = ap (most_in p) j in
+        omega (arith, a, b, d);
     ready = into_ready g h fits;
-    grows = as_before w }
+    grows = as_before w;
+  }
 
   pub inline_stuck_goes : (f : ℕ) (g : Function) (held : Memory) → callee_in C (store_of l (state m w)) t ≡ Some (callee_is.Function f) → slice_get p.functions f ≡ Some g → g.is_inline ≡ true → l.is_inline ≡ false → IsReadyCore at → length args ≢ length g.params → Holds m held → GoesFurther p at m w (core no_way l ps) held w
   inline_stuck_goes f g held e is i j h many holds = record {
@@ -478,4 +501,5 @@ module _ (p : Program) (l : Level) (ps : List Piece) (m : List c.Block) (w : Wor
     same = λ k. inline_means f g e is i j k ∙ ap after (not_entered p true g args (state m w) k many);
     less = omega arith;
     ready = record { here = tt; after = h.after };
-    grows = as_before w }
+    grows = as_before w;
+  }

@@ -1,8 +1,7 @@
 -- A run, from its entry to its end.
-use Rattle.std.proofs.Common.{◌≡◌, ◌≢◌, ◌⊎◌, ⊎_elim, inl, inr, ℕ, zero, suc, ◌+◌, ◌-◌, ◌<◌, Bool, true, false, List, [], ◌∷◌, ◌++◌, length, replicate, take, Option, Some, None, subst, refl, sym, ap, ap₂, ◌∙◌, arith, if◌then◌else◌, slice_get}
-use Rattle.std.specs.Prelude.{pos, IfOk, Result, Ok, Err}
+use Rattle.std.proofs.Common.{◌≡◌, ◌≢◌, ⊎_elim, ℕ, zero, suc, ◌-◌, ◌<◌, Bool, true, false, List, [], ◌∷◌, length, replicate, Option, Some, None, subst, refl, sym, ap, ◌∙◌, arith, if◌then◌else◌, slice_get}
+use Rattle.std.specs.Prelude.{IfOk, Result, Ok, Err}
 use Rattle.std.specs.declared.alloc.AllocError.{AllocError}
-use Rattle.std.specs.Option.{option_map}
 use Rattle.std.proofs.lemmas.List.{length-replicate}
 use Rattle.mm_base.specs.World.{World}
 use Rattle.mm_meaning.specs.Run.{Run, Gives, Stops}
@@ -12,22 +11,21 @@ use Rattle.mm_c.specs.declared.value.CValue.TheVariants.{Int, Unsigned, Long, Nu
 use Rattle.mm_c.specs.Memory as c
 use Rattle.mm_c.specs.CMeaning.{Stop, Trapped, Spent, Stuck, State, From}
 use Rattle.mm_c.specs.CRun.{outcome_of}
-use Rattle.mm_c_placed.specs.declared.tree.Callee.TheVariants as callee_is
 use Rattle.mm_c_placed.specs.Tree.{Function, Program}
-use Rattle.mm_c_placed.specs.Meaning.{start, enter, given, body_of, end_of, flows_of, at_function, any_entry, all_calls, now, run_of}
-use Rattle.mm_c_placed.specs.Ready.{IsReady, IsIn}
+use Rattle.mm_c_placed.specs.Meaning.{start, enter, given, body_of, end_of, flows_of, at_function, any_entry, now, run_of}
+use Rattle.mm_c_placed.specs.Ready.{IsReady}
 use Rattle.mm_c_placed.proofs.Deep.{now_step, run_now}
 use Rattle.mm_c_memory.specs.declared.memory.Memory.{Memory}
 use Rattle.mm_c_memory.specs.Held.{Holds}
 use Rattle.mm_c_machine.specs.Answers.{state}
-use Rattle.mm_c_machine.specs.State.{Core, code, no_way}
+use Rattle.mm_c_machine.specs.State.{Core}
 use Rattle.mm_c_machine.specs.Ready.{IsReadyCore}
 use Rattle.mm_c_machine.specs.declared.machine.Ending.{Ending}
 use Rattle.mm_c_machine.specs.declared.machine.Ending.TheVariants as ending
 use Rattle.mm_c_machine.specs.declared.run.End as end_
 use Rattle.mm_c_machine.specs.declared.run.End.TheVariants as end
 use Rattle.mm_c_machine.specs.Goes.{around, means, Grows, Steps, Ends, HasEnd, HasStop}
-use Rattle.mm_c_machine.specs.Runs.{finish_of, EndsAs, end_by, level_in, IsFirst}
+use Rattle.mm_c_machine.specs.Runs.{finish_of, EndsAs, end_by, IsFirst}
 use Rattle.mm_c_machine.proofs.Frames.{nought, start-zeros}
 use Rattle.mm_c_machine.proofs.Moves.{as_before}
 use Rattle.mm_c_machine.proofs.Growth.{grows_more}
@@ -106,13 +104,13 @@ module _ (p : Program) (f : Function) (s : Core) (first : IsFirst f s) where
   enters_first i st k e =
       ⊎_elim
       (λ a.
-        ap (λ ks. body_of (around p i) f (given ks []) st k) a.0
-        ∙ ap (λ fr. end_of f.result (flows_of (around p i) f.body (record { frame = fr; state = st }) k)) (sym (start-zeros [] f.slots))
-        ∙ ap (λ b. end_of f.result (flows_of (around p b) f.body (record { frame = start (replicate f.slots nought); state = st }) k)) e
-        ∙ ap (λ q. means p q st k) (sym a.1))
+      ap (λ ks. body_of (around p i) f (given ks []) st k) a.0
+      ∙ ap (λ fr. end_of f.result (flows_of (around p i) f.body (record { frame = fr; state = st }) k)) (sym (start-zeros [] f.slots))
+      ∙ ap (λ b. end_of f.result (flows_of (around p b) f.body (record { frame = start (replicate f.slots nought); state = st }) k)) e
+      ∙ ap (λ q. means p q st k) (sym a.1))
       (λ a.
-        let ks = some_params f.params a.0 in
-        ap (λ q. body_of (around p i) f (given q []) st k) ks.1.1 ∙ ap (λ q. means p q st k) (sym a.1))
+      let ks = some_params f.params a.0 in
+      ap (λ q. body_of (around p i) f (given q []) st k) ks.1.1 ∙ ap (λ q. means p q st k) (sym a.1))
       first
 
   pub first_ready : IsReady p → (n : ℕ) → slice_get p.functions n ≡ Some f → IsReadyCore s

@@ -1,9 +1,9 @@
 -- The stack of pieces over the list of values.
-use Rattle.std.proofs.Common.{◌≡◌, ℕ, zero, suc, ◌+◌, ◌≤◌, ◌<◌, List, [], ◌∷◌, ◌++◌, length, reverse, take, drop, set, refl, sym, ap, ◌∙◌, arith}
-use Rattle.std.proofs.lemmas.List.{reverse-append, take-set-le, take-append-le}
+use Rattle.std.proofs.Common.{◌≡◌, ℕ, List, [], ◌∷◌, ◌++◌, length, reverse, take, refl, ap, ◌∙◌, arith}
+use Rattle.std.proofs.lemmas.List.{reverse-append}
 use Rattle.mm_c.specs.declared.value.CValue.{CValue}
 use Rattle.mm_c_placed.specs.View.{code_view}
-use Rattle.mm_c_machine.specs.State.{Piece, rest, loop, ret, level_of, pieces_of}
+use Rattle.mm_c_machine.specs.State.{rest, loop, ret, level_of, pieces_of}
 use Rattle.mm_c_machine.specs.declared.machine.Pending.{Pending}
 use Rattle.mm_c_machine.specs.declared.machine.Pending.TheVariants as pending
 

@@ -1,5 +1,5 @@
 -- A move, by the statement or the way on that stands first.
-use Rattle.std.proofs.Common.{◌≡◌, ℕ, Bool, true, false, ◌<◌, List, [], ◌∷◌, length, Option, Some, None, Result, Ok, Err, refl, sym, ap, ◌∙◌, subst, arith, Bor}
+use Rattle.std.proofs.Common.{◌≡◌, ◌<◌, List, [], ◌∷◌, length, Result, Ok, Err, refl, sym, ap, ◌∙◌, subst, arith, Bor}
 use Rattle.std.specs.Prelude.{IfOk}
 use Rattle.std.specs.declared.alloc.AllocError.{AllocError}
 use Rattle.mm_base.specs.World.{World}
@@ -13,7 +13,7 @@ use Rattle.mm_c_memory.specs.declared.memory.Memory.{Memory}
 use Rattle.mm_c_memory.specs.Held.{Holds}
 use Rattle.mm_c_machine.specs.Answers.{state}
 use Rattle.mm_c_machine.specs.Frames.{with_zeros}
-use Rattle.mm_c_machine.specs.State.{Level, Piece, rest, loop, At, code, leaves, no_way, Core, with_at, with_piece, with_level, with_values, at_view, store_of}
+use Rattle.mm_c_machine.specs.State.{Level, Piece, rest, loop, At, code, leaves, Core, with_at, with_piece, with_level, with_values, at_view, store_of}
 use Rattle.mm_c_machine.specs.Ready.{IsReadyCore}
 use Rattle.mm_c_machine.specs.Goes.{GoesFurther, Ends, Goes}
 use Rattle.mm_c_machine.specs.Goes as goes
@@ -32,13 +32,13 @@ module _ (p : Program) (s : Core) (m : List c.Block) (w : World) (st : Stmt) (mo
   cleared_at xs s' held held' e to holds kept h =
       subst (λ q. GoesFurther p first m w q held' w) (sym to)
       (subst (λ q. GoesFurther p (with_at s (code (do_then q more))) m w (with_at (with_level s (with_values s.level (with_zeros xs s.level.values))) (code more)) held' w) (sym e)
-        (locals_go p s.level s.pieces m w xs more held' (subst (Holds m) (sym kept) holds) (subst (λ q. IsReadyCore (with_at s (code (do_then q more)))) e h)))
+      (locals_go p s.level s.pieces m w xs more held' (subst (Holds m) (sym kept) holds) (subst (λ q. IsReadyCore (with_at s (code (do_then q more)))) e h)))
 
   pub begun_at : (b : Code) (s' : Core) (held held' : Memory) → st ≡ forever b → s' ≡ with_at (with_piece (with_piece s (rest more)) (loop b)) (code b) → Holds m held → held' ≡ held → IsReadyCore first → goes.Steps p first m w s' held' w
   begun_at b s' held held' e to holds kept h =
       subst (λ q. goes.Steps p first m w q held' w) (sym to)
       (subst (λ q. goes.Steps p (with_at s (code (do_then q more))) m w (with_at (with_piece (with_piece s (rest more)) (loop b)) (code b)) held' w) (sym e)
-        (loop_goes p s.level s.pieces m w b more held' (subst (Holds m) (sym kept) holds) (subst (λ q. IsReadyCore (with_at s (code (do_then q more)))) e h)))
+      (loop_goes p s.level s.pieces m w b more held' (subst (Holds m) (sym kept) holds) (subst (λ q. IsReadyCore (with_at s (code (do_then q more)))) e h)))
 
 -- ---- the end of code
 
@@ -57,7 +57,7 @@ pub code_empty : (h : Here) (d : Bor (List PlacedStmt)) → h ≡ here.Code d �
 code_empty h d e short = ap at_view e ∙ nothing d.now short
 
 pub done_arrives : (p : Program) (a : At) (l : Level) (ps : List Piece) (held held' : Memory) (w : World) (s' : Core) (result : Result Went AllocError) → a ≡ code done →
-  IfOk result (λ went. (q : Program) (m : List c.Block) (u : World) → Holds m held → Goes q went (core (leaves Next) l ps) m u s' held' u) → IfOk result (λ went. (m : List c.Block) → Holds m held → Goes p went (core a l ps) m w s' held' w)
+    IfOk result (λ went. (q : Program) (m : List c.Block) (u : World) → Holds m held → Goes q went (core (leaves Next) l ps) m u s' held' u) → IfOk result (λ went. (m : List c.Block) → Holds m held → Goes p went (core a l ps) m w s' held' w)
 done_arrives p a l ps held held' w s' (Ok went) e is = λ m holds. subst (λ q. Goes p went (core q l ps) m w s' held' w) (sym e) (done_goes p went l ps m w s' held' w (is p m w holds))
 done_arrives p a l ps held held' w s' (Err x) e is = tt
 

@@ -1,11 +1,8 @@
 -- Many moves, and many steps.
-use Rattle.std.proofs.Common.{◌≡◌, ℕ, zero, suc, ◌+◌, ◌-◌, ◌<◌, List, [], Option, Some, None, subst, refl, sym, ap, ◌∙◌, arith}
+use Rattle.std.proofs.Common.{◌≡◌, ℕ, suc, List, subst, refl, sym, ◌∙◌}
 use Rattle.mm_base.specs.World.{World}
-use Rattle.mm_meaning.specs.Run.{Run, Gives, Stops}
-use Rattle.mm_meaning.specs.Later.{state_of}
-use Rattle.mm_c.specs.declared.value.CValue.{CValue}
 use Rattle.mm_c.specs.Memory as c
-use Rattle.mm_c.specs.CMeaning.{Stop, Spent, State}
+use Rattle.mm_c.specs.CMeaning.{Spent}
 use Rattle.mm_c_placed.specs.Tree.{Program}
 use Rattle.mm_c_memory.specs.declared.memory.Memory.{Memory}
 use Rattle.mm_c_memory.specs.Held.{Holds}
@@ -13,7 +10,6 @@ use Rattle.mm_c_machine.specs.Answers.{state}
 use Rattle.mm_c_machine.specs.State.{Core}
 use Rattle.mm_c_machine.specs.Ready.{IsReadyCore}
 use Rattle.mm_c_machine.specs.declared.machine.Ending.{Ending}
-use Rattle.mm_c_machine.specs.declared.machine.Ending.TheVariants as ending
 use Rattle.mm_c_machine.specs.Goes.{means, Grows, GoesFurther, Steps, Ends, HasEnd, HasStop}
 use Rattle.mm_c_machine.proofs.Moves.{as_before}
 use Rattle.mm_c_machine.proofs.Growth.{grows_more}

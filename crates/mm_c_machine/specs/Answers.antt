@@ -1,5 +1,5 @@
 -- What a call of a function of the prelude gives.
-use Rattle.std.specs.Prelude.{◌≡◌, ℕ, ℤ, Bool, true, false, ◌&&◌, List, [], ◌∷◌, Option, Some, None, Result, Ok, Err}
+use Rattle.std.specs.Prelude.{◌≡◌, ℕ, ℤ, Bool, true, false, List, [], ◌∷◌, Option, Result, Ok, Err}
 use Rattle.std.specs.List.{list_all}
 use Rattle.mm_base.specs.World.{World, call_builtin}
 use Rattle.mm_base.specs.Num.{code_of}

@@ -1,16 +1,14 @@
 -- The meaning of a machine, and of one move.
-use Rattle.std.specs.Prelude.{◌≡◌, ◌≢◌, ◌⊎◌, ℕ, zero, suc, ◌+◌, ◌<◌, Bool, true, false, List, [], ◌∷◌, ◌++◌, length, Option, Some, None}
+use Rattle.std.specs.Prelude.{◌≡◌, ◌≢◌, ◌⊎◌, ℕ, suc, ◌<◌, Bool, true, false, List, [], ◌∷◌, length, Option, Some, None}
 use Rattle.mm_base.specs.World.{World}
-use Rattle.mm_meaning.specs.Run.{Run, Gives, Stops, ◌>>=◌, then, pure, within}
+use Rattle.mm_meaning.specs.Run.{Run, Gives, Stops, then, pure, within}
 use Rattle.mm_meaning.specs.Same.{IsFront}
-use Rattle.mm_meaning.specs.Later.{state_of}
 use Rattle.mm_c.specs.declared.value.CValue.{CValue}
 use Rattle.mm_c.specs.declared.tree.CKind.{CKind}
 use Rattle.mm_c.specs.Memory as c
 use Rattle.mm_c.specs.CMeaning.{Stop, Trapped, Spent, Stuck, State, From, stuck, Flow}
-use Rattle.mm_c.specs.CRun.{Finish, Ended, TrappedBy, GoesOn, IsStuck, ended_by, outcome_of}
 use Rattle.mm_c_placed.specs.Tree.{Code, forever, Function, Program}
-use Rattle.mm_c_placed.specs.Meaning.{Store, start, Around, Calls, around_of, plain_calls, all_calls, now, unless_left, next_turn, flow_of, flows_of, receive, callee_in, end_of}
+use Rattle.mm_c_placed.specs.Meaning.{Store, Around, Calls, around_of, plain_calls, all_calls, now, unless_left, next_turn, flow_of, flows_of, receive, callee_in, end_of}
 use Rattle.mm_c_memory.specs.declared.memory.Memory.{Memory}
 use Rattle.mm_c_memory.specs.Held.{Holds}
 use Rattle.mm_c_machine.specs.State.{Level, Piece, rest, loop, ret, At, code, leaves, no_way, Core, with_at, with_local, entered, store_of}

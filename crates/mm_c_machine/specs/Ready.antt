@@ -1,8 +1,8 @@
 -- Each place that is named lies in its frame; and how much is left to do before the next step.
-use Rattle.std.specs.Prelude.{ℕ, ◌+◌, ◌<◌, Bool, true, false, List, [], ◌∷◌, Option, length}
+use Rattle.std.specs.Prelude.{ℕ, ◌+◌, Bool, true, false, List, [], ◌∷◌, length}
 use Rattle.mm_c_placed.specs.Tree.{Stmt, locals, assign, store, run, if_else, forever, break, continue, leave, return, Code, done, do_then, Function, Program}
 use Rattle.mm_c_placed.specs.Ready.{IsIn, IsInResult}
-use Rattle.mm_c_machine.specs.State.{Level, Piece, rest, loop, ret, At, code, leaves, no_way, Core}
+use Rattle.mm_c_machine.specs.State.{Piece, rest, loop, ret, At, code, leaves, no_way, Core}
 
 abbrev pub IsInAt : ℕ → At → Type 0
 IsInAt n (code c) = IsIn n c

@@ -1,5 +1,5 @@
 -- How a run ends.
-use Rattle.std.specs.Prelude.{◌≡◌, ◌⊎◌, ◌≢◌, ℕ, pos, List, [], length, replicate, Option, Some, None}
+use Rattle.std.specs.Prelude.{◌≡◌, ◌⊎◌, ◌≢◌, pos, [], length, replicate, Option, Some, None}
 use Rattle.mm_base.specs.World.{World}
 use Rattle.mm_meaning.specs.Run.{Run}
 use Rattle.mm_meaning.specs.Later.{state_of}

@@ -1,16 +1,13 @@
 -- What a machine stands for: the code in hand, the frame of the function that runs, and what is done after the code.
-use Rattle.std.specs.Prelude.{ℕ, ◌+◌, ◌-◌, Bool, List, [], ◌∷◌, ◌++◌, map, reverse, length, take, drop, set, replicate, Option, Some, None, pos}
-use Rattle.mm_base.specs.World.{World}
+use Rattle.std.specs.Prelude.{ℕ, ◌-◌, Bool, List, [], ◌∷◌, ◌++◌, reverse, length, take, drop, set, replicate, Option, pos}
 use Rattle.mm_c.specs.declared.value.CValue.{CValue}
 use Rattle.mm_c.specs.declared.value.CValue.TheVariants.{Int}
 use Rattle.mm_c.specs.declared.tree.CKind.{CKind}
-use Rattle.mm_c.specs.Memory as c
 use Rattle.mm_c.specs.CMeaning.{State, Flow, Next, Broke, Continued, Returned, fitted}
 use Rattle.mm_c_placed.specs.declared.tree.Local.{Local}
 use Rattle.mm_c_placed.specs.Tree.{Code}
 use Rattle.mm_c_placed.specs.View.{code_view}
 use Rattle.mm_c_placed.specs.Meaning.{Store, start}
-use Rattle.mm_c_machine.specs.Answers.{state}
 use Rattle.mm_c_machine.specs.declared.machine.Machine.{Machine}
 use Rattle.mm_c_machine.specs.declared.machine.Frame.{Frame}
 use Rattle.mm_c_machine.specs.declared.machine.Pending.{Pending}

@@ -24,7 +24,11 @@ pub fn read(values: &[CValue], base: usize, a: Operand) -> CValue
 }
 
 /// Puts what operands are behind all values.
-pub fn push_operands(values: &mut Vec<CValue>, base: usize, args: &[Operand]) -> Result<(), AllocError>
+pub fn push_operands(
+    values: &mut Vec<CValue>,
+    base: usize,
+    args: &[Operand],
+) -> Result<(), AllocError>
     requires { All (IsInOperand (length (drop base values.old.items))) args.now }
     ensures { OnOk result (values.new.items ≡ values.old.items ++ map (operand_of (start (drop base values.old.items))) args.now) }
 {

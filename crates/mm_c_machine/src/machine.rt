@@ -20,15 +20,17 @@ ghost use Rattle.mm_c_machine.specs.Ready.{IsReadyCore};
 ghost use Rattle.mm_c_machine.specs.Goes.{Goes, Grows, Reaches, Received, Entered, IsCalled, IsFound};
 ghost use Rattle.mm_c_machine.specs.Parts.{function_in, number_in};
 
-use crate::frame;
-use crate::prelude;
 use crate::prelude::{Prelude, Refusal};
+use crate::{frame, prelude};
 use mm_base::world::World;
 use mm_c::tree::CKind;
 use mm_c::value::{CCell, CValue};
 use mm_c_memory::memory::Memory;
 use mm_c_memory::operate;
-use mm_c_placed::tree::{Address, Callee, Element, Index, Local, Operand, PlacedFunction, PlacedProgram, PlacedStmt, Right, Target};
+use mm_c_placed::tree::{
+    Address, Callee, Element, Index, Local, Operand, PlacedFunction, PlacedProgram, PlacedStmt,
+    Right, Target,
+};
 use sqlite_items::at;
 use std::alloc::{AllocError, Global};
 
@@ -187,7 +189,10 @@ impl<'a> Machine<'a> {
     {
         match i {
             Index::Place(x) => operate::as_index(self.place(x)),
-            Index::Tag(p) => match self.memory.load(CCell::Short, self.place(p.pointer), p.offset) {
+            Index::Tag(p) => match self
+                .memory
+                .load(CCell::Short, self.place(p.pointer), p.offset)
+            {
                 None => None,
                 Some(v) => operate::as_index(v),
             },
@@ -201,7 +206,12 @@ impl<'a> Machine<'a> {
     {
         match r {
             Right::Copy(a) => Some(self.value(a)),
-            Right::Binary(a, o, b) => operate::operate(&self.memory, o, self.value(a), self.value(b)),
+            Right::Binary(a, o, b) => operate::operate(
+                &self.memory,
+                o,
+                self.value(a),
+                self.value(b),
+            ),
             Right::ToInt(x) => operate::as_int(self.place(x)),
             Right::ToUnsigned(x) => operate::as_unsigned(self.place(x)),
             Right::Load(c, p) => self.memory.load(c, self.place(p.pointer), p.offset),
@@ -389,7 +399,11 @@ impl<'a> Machine<'a> {
     {
         let callee = match t {
             Target::Named(f) => Some(f),
-            Target::Element(array, i) => function_in(program, array, operate::as_index(self.place(i))),
+            Target::Element(array, i) => function_in(
+                program,
+                array,
+                operate::as_index(self.place(i)),
+            ),
         };
         self.run_callee(alloc, program, world, callee, x, args, more)
     }
@@ -583,11 +597,13 @@ impl<'a> Machine<'a> {
                     Ok(Went::On)
                 }
             },
-            Some(Pending::Return {
-                frame,
-                receiver,
-                rest,
-            }) => Ok(self.come_back(flow, frame, receiver, rest)),
+            Some(
+                Pending::Return {
+                    frame,
+                    receiver,
+                    rest,
+                },
+            ) => Ok(self.come_back(flow, frame, receiver, rest)),
         }
     }
 }

@@ -106,7 +106,11 @@ fn trap(values: &[CValue]) -> Refusal
     }
 }
 
-fn allocate(alloc: Global, memory: &mut Memory, values: &[CValue]) -> Result<Option<CValue>, Refusal>
+fn allocate(
+    alloc: Global,
+    memory: &mut Memory,
+    values: &[CValue],
+) -> Result<Option<CValue>, Refusal>
     ensures { (m : List c.Block) (w : plain.World) → Holds m memory.old → Answers result Prelude.New values.now m w memory.new w }
 {
     match values {

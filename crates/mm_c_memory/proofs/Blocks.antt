@@ -1,5 +1,5 @@
 -- Loads and stores in one block that is held as halves.
-use Rattle.std.proofs.Common.{◌≡◌, ◌≢◌, ℕ, ◌+◌, ◌*◌, ◌/◌, ◌%◌, ◌<◌, ◌≤◌, ◌⊎◌, ◌↔◌, inl, inr, Bool, true, false, ◌&&◌, if◌then◌else◌, List, [], ◌∷◌, length, get_or, Option, Some, None, refl, sym, ap, ap₂, subst, ◌∙◌, arith, eqb, leb, ⊎_elim}
+use Rattle.std.proofs.Common.{◌≡◌, ◌≢◌, ℕ, ◌+◌, ◌*◌, ◌/◌, ◌%◌, ◌<◌, ◌≤◌, ◌↔◌, inl, inr, Bool, true, false, ◌&&◌, if◌then◌else◌, List, ◌∷◌, length, get_or, Some, refl, sym, ap, ◌∙◌, arith, eqb, leb, ⊎_elim}
 use Rattle.std.proofs.lemmas.Bool.{cases_Bool, false≢true, le-leb, leb-true, eq-eqb, eqb-true}
 use Rattle.std.proofs.lemmas.Bool.Decides.{leb_tells}
 use Rattle.std.proofs.lemmas.List.{get_or_default}
@@ -10,12 +10,12 @@ use Rattle.mm_c.specs.declared.value.CCell.TheVariants as cell
 use Rattle.mm_c.specs.declared.value.CValue.{CValue}
 use Rattle.mm_c.specs.Memory.{width_of, zero_of, same_kind, Cell, has_room, latest, value_or, load_in, with_cell}
 use Rattle.mm_c.specs.Memory as c
-use Rattle.mm_c.proofs.Bools.{and_left, and_right, both}
+use Rattle.mm_c.proofs.Bools.{and_left, and_right}
 use Rattle.mm_c_memory.specs.declared.memory.Half.{Half}
 use Rattle.mm_c_memory.specs.declared.memory.Half.TheVariants as half
 use Rattle.mm_c_memory.specs.declared.memory.Block.{Block}
-use Rattle.mm_c_memory.specs.Held.{half_at, is_free, AreEmpty, WithInside, is_clear, WereStored, HoldsBlock, StoresIn}
-use Rattle.mm_c_memory.proofs.Halves.{even_width, same_is, value_room, inside_room, empty_room, taken_room, free_is, latest_value, latest_none, stored_first, stored_within, stored_apart}
+use Rattle.mm_c_memory.specs.Held.{half_at, is_free, AreEmpty, WithInside, is_clear, HoldsBlock}
+use Rattle.mm_c_memory.proofs.Halves.{even_width, value_room, inside_room, empty_room, taken_room, free_is, latest_value, latest_none, stored_first, stored_within, stored_apart}
 
 module _ (b : c.Block) (h : Block) (held : HoldsBlock b h) (kind : CCell) (offset : ℕ) (aligned : offset % width_of kind ≡ 0) (fits : offset / 2 + width_of kind / 2 ≤ length h.halves.items) where
   -- the offset is that of the half

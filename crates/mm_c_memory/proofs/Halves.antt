@@ -1,15 +1,15 @@
 -- A look at the halves where a cell would stand says whether it may stand there.
-use Rattle.std.proofs.Common.{◌≡◌, ◌≢◌, ℕ, ◌+◌, ◌*◌, ◌/◌, ◌%◌, ◌<◌, ◌≤◌, ◌⊎◌, inl, inr, Bool, true, false, ◌&&◌, ◌||◌, ◌==◌, if◌then◌else◌, List, [], ◌∷◌, length, get_or, Option, Some, None, refl, sym, ap, ap₂, subst, ◌∙◌, arith, eqb, leb, ltb, ⊎_elim}
-use Rattle.std.proofs.lemmas.Bool.{cases_Bool, false≢true, le-leb, leb-true, lt-leb, eqb-true, eqb-false, ne_eqb, lt-ltb, le-ltb, eq-eqb}
+use Rattle.std.proofs.Common.{◌≡◌, ◌≢◌, ℕ, ◌+◌, ◌*◌, ◌/◌, ◌<◌, ◌≤◌, ◌⊎◌, inl, inr, Bool, true, false, ◌&&◌, ◌||◌, ◌==◌, if◌then◌else◌, List, [], ◌∷◌, Some, None, refl, sym, ap, ap₂, ◌∙◌, arith, eqb, leb, ltb, ⊎_elim}
+use Rattle.std.proofs.lemmas.Bool.{cases_Bool, false≢true, le-leb, lt-leb, ne_eqb, lt-ltb, le-ltb, eq-eqb}
 use Rattle.std.proofs.lemmas.Bool.Decides.{leb_tells, eqb_tells}
 use Rattle.mm_c.specs.declared.value.CCell.{CCell}
 use Rattle.mm_c.specs.declared.value.CCell.TheVariants as cell
 use Rattle.mm_c.specs.declared.value.CValue.{CValue}
-use Rattle.mm_c.specs.Memory.{width_of, zero_of, same_kind, Cell, Block, is_apart, has_room, latest, value_or, load_in, with_cell}
+use Rattle.mm_c.specs.Memory.{width_of, same_kind, Cell, is_apart, latest}
 use Rattle.mm_c.proofs.Bools.{and_left, and_right, both}
 use Rattle.mm_c_memory.specs.declared.memory.Half.{Half}
 use Rattle.mm_c_memory.specs.declared.memory.Half.TheVariants as half
-use Rattle.mm_c_memory.specs.Held.{half_at, is_free, AreEmpty, is_clear, WereStored}
+use Rattle.mm_c_memory.specs.Held.{half_at, is_free, is_clear, WereStored}
 
 -- ---- where the bytes of a half are, by a cell
 

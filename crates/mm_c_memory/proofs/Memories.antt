@@ -1,13 +1,13 @@
 -- Loads and stores in a memory that is held as blocks of halves.
-use Rattle.std.proofs.Common.{◌≡◌, ℕ, zero, suc, ◌+◌, ◌<◌, ◌≤◌, Bool, true, false, if◌then◌else◌, List, [], ◌∷◌, ◌++◌, length, get_or, slice_get, slice_set, Option, Some, None, refl, sym, ap, ap₂, subst, ◌∙◌, arith}
+use Rattle.std.proofs.Common.{◌≡◌, ℕ, zero, suc, ◌+◌, ◌<◌, ◌≤◌, Bool, true, false, if◌then◌else◌, List, [], ◌∷◌, ◌++◌, length, get_or, slice_get, slice_set, Some, None, refl, sym, ap, subst, ◌∙◌, arith}
 use Rattle.mm_c.specs.declared.value.CCell.{CCell}
 use Rattle.mm_c.specs.declared.value.CValue.{CValue}
-use Rattle.mm_c.specs.declared.value.CValue.TheVariants.{Int, Unsigned, Long, Null, At}
+use Rattle.mm_c.specs.declared.value.CValue.TheVariants.{At}
 use Rattle.mm_c.specs.Memory.{has_room, load_in, load, store_in, store, with_cell, fresh}
 use Rattle.mm_c.specs.Memory as c
 use Rattle.mm_c_memory.specs.declared.memory.Block.{Block}
 use Rattle.mm_c_memory.specs.declared.memory.Memory.{Memory}
-use Rattle.mm_c_memory.specs.Held.{HoldsBlock, HoldBlocks, Holds, StoresIn, Stores, size_in}
+use Rattle.mm_c_memory.specs.Held.{HoldsBlock, HoldBlocks, StoresIn, Stores}
 
 pub same_length : (m : List c.Block) (hs : List Block) → HoldBlocks m hs → length m ≡ length hs
 same_length [] [] h = refl

@@ -170,8 +170,7 @@ impl Memory {
         }
     }
 
-    /// A new block, behind all others, and the pointer to its first byte. The memory is as before
-    /// where there is none left for it.
+    /// A new block, behind all others, and the pointer to its first byte.
     pub fn allocate(&mut self, alloc: Global, size: u32) -> Result<CValue, AllocError>
         ensures { (m : List c.Block) → Holds m self.old → IfOk result (λ p. (p ≡ At (length m) 0) × Holds (m ++ c.fresh size ∷ []) self.new) }
     {

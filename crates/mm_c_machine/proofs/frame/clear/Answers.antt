@@ -1,4 +1,4 @@
-use Rattle.std.proofs.Common.{◌≡◌, ◌+◌, ◌<◌, length, take, get_or, refl, arith}
+use Rattle.std.proofs.Common.{take, get_or, arith}
 use Rattle.std.proofs.lemmas.List.{get_or_default}
 use Rattle.mm_c.specs.declared.tree.CKind as kind
 use Rattle.mm_c_placed.specs.declared.tree.Local.{Local}
@@ -19,4 +19,4 @@ loop-x-preserved c =
     let x = get_or c.args.xs.now c.loop-x.x-index default in
     let is = get_or_default c.args.xs.now c.loop-x.x-index default x c.loop-x-test.true in
     clearing_more c.args.base c.args.values.now.items c.args.xs.now c.loop-x.values.items c.loop-x.x-index x c.zero_of.result c.loop-x.invariant c.loop-x-test.true is
-      (clearing_place c.args.base c.args.values.now.items c.args.xs.now (take c.loop-x.x-index c.args.xs.now) c.loop-x.values.items c.loop-x.x-index x c.loop-x.invariant c.requires c.loop-x-test.true is) c.zero_of.ensures
+    (clearing_place c.args.base c.args.values.now.items c.args.xs.now (take c.loop-x.x-index c.args.xs.now) c.loop-x.values.items c.loop-x.x-index x c.loop-x.invariant c.requires c.loop-x-test.true is) c.zero_of.ensures

@@ -1,4 +1,4 @@
-use Rattle.std.proofs.Common.{◌≡◌, ℕ, ◌<◌, ◌≤◌, length, arith}
+use Rattle.std.proofs.Common.{◌<◌, ◌≤◌, length, arith}
 use Rattle.mm_c_machine.proofs.Frames.{filling_start, filling_more, filling_end}
 use Rattle.mm_c_machine.proofs.frame.fill.Goals as goal
 

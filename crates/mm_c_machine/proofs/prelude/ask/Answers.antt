@@ -13,9 +13,9 @@ returns-then-not-all_ints c = λ m held holds.
 pub returns-in-Get : goal.returns-in-Get
 returns-in-Get c = λ m held holds.
     subst (λ q. Answers c.call.result (prelude.Asks q) c.args.values.now m (world_view c.args.world.now) held (world_view c.call.new.world)) (sym c.in-Get.is)
-      (gets m held _ _ c.args.values.now c.call.result holds (sym c.all_ints.ensures ∙ c.if-not-all_ints.false) c.call.ensures)
+    (gets m held _ _ c.args.values.now c.call.result holds (sym c.all_ints.ensures ∙ c.if-not-all_ints.false) c.call.ensures)
 
 pub returns-in-More : goal.returns-in-More
 returns-in-More c = λ m held holds.
     subst (λ q. Answers c.call-in-More.result (prelude.Asks q) c.args.values.now m (world_view c.args.world.now) held (world_view c.call-in-More.new.world)) (sym c.in-More.is)
-      (looks m held _ _ c.args.values.now c.call-in-More.result holds (sym c.all_ints.ensures ∙ c.if-not-all_ints.false) c.call-in-More.ensures)
+    (looks m held _ _ c.args.values.now c.call-in-More.result holds (sym c.all_ints.ensures ∙ c.if-not-all_ints.false) c.call-in-More.ensures)

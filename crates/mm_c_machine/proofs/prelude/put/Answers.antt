@@ -1,4 +1,4 @@
-use Rattle.std.proofs.Common.{◌<◌, ◌≡◌, length, get_or, rules, arith}
+use Rattle.std.proofs.Common.{◌<◌, length, rules}
 use Rattle.std.proofs.lemmas.List.{get_or_default}
 use Rattle.mm_c_machine.proofs.Answering.{puts}
 use Rattle.mm_c_machine.proofs.prelude.put.Goals as goal

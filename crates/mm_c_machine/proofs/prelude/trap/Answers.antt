@@ -1,4 +1,4 @@
-use Rattle.std.proofs.Common.{◌≢◌, length, rules, refl, arith}
+use Rattle.std.proofs.Common.{refl}
 use Rattle.mm_c_machine.specs.Answers.{state}
 use Rattle.mm_c_machine.proofs.Answering.{trap_stuck}
 use Rattle.mm_c_machine.proofs.prelude.trap.Goals as goal

@@ -1,4 +1,4 @@
-use Rattle.std.proofs.Common.{◌≡◌, ℕ, subst, arith}
+use Rattle.std.proofs.Common.{◌≡◌, subst, arith}
 use Rattle.mm_c_memory.specs.Held.{WithInside}
 use Rattle.mm_c_memory.proofs.memory.put_inside.Goals as goal
 

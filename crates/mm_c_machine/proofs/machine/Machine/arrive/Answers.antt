@@ -1,4 +1,4 @@
-use Rattle.std.proofs.Common.{◌≡◌, ℕ, length, ap, arith}
+use Rattle.std.proofs.Common.{◌≡◌, length, ap, arith}
 use Rattle.mm_c_placed.specs.View.{code_view}
 use Rattle.mm_c_machine.specs.State.{seen, flow_view, code}
 use Rattle.mm_c_machine.proofs.Stack.{pieces_last, pieces_none}
@@ -20,4 +20,4 @@ pub returns-in_ok-push-in-Next-flow : goal.returns-in_ok-push-in-Next-flow
 returns-in_ok-push-in-Next-flow c = λ p m w holds.
     let is = rw c.in-Some-Loop.field-0-is at c.in-Some-Loop.ensures.items in
     loop_again_at p (seen c.args.self.now).level m w c.args.self.now.memory c.args.flow _ (code_view c.in-Some-Loop.body.now) _ _ holds c.in-Next-flow.is (pieces_last _ _ _ c.args.self.now.frame.base c.args.self.now.values.items is)
-      (ap (λ q. core (code (code_view c.in-Some-Loop.body.now)) (seen c.args.self.now).level q) (pieces_last _ _ _ c.args.self.now.frame.base c.args.self.now.values.items c.in_ok-push-in-Next-flow.ensures.items)) c.requires
+    (ap (λ q. core (code (code_view c.in-Some-Loop.body.now)) (seen c.args.self.now).level q) (pieces_last _ _ _ c.args.self.now.frame.base c.args.self.now.values.items c.in_ok-push-in-Next-flow.ensures.items)) c.requires

@@ -1,4 +1,4 @@
-use Rattle.std.proofs.Common.{◌≡◌, reverse, refl}
+use Rattle.std.proofs.Common.{reverse, refl}
 use Rattle.mm_c_machine.proofs.Stack.{pieces-below}
 use Rattle.mm_c_machine.proofs.machine.Machine.clear.Goals as goal
 

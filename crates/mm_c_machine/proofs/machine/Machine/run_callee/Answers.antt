@@ -1,4 +1,4 @@
-use Rattle.std.proofs.Common.{◌≡◌, refl, sym, ap, ◌∙◌}
+use Rattle.std.proofs.Common.{◌∙◌}
 use Rattle.mm_c_placed.specs.View.{code_view, program_view}
 use Rattle.mm_base.specs.Calls.{world_view}
 use Rattle.mm_c_machine.specs.State.{seen}

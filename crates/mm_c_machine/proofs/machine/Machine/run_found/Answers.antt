@@ -1,9 +1,9 @@
-use Rattle.std.proofs.Common.{◌≡◌, refl, sym, ap, ◌∙◌, Some}
+use Rattle.std.proofs.Common.{sym, ap, ◌∙◌, Some}
 use Rattle.mm_c_placed.specs.View.{code_view, program_view, function_view}
 use Rattle.mm_base.specs.Calls.{world_view}
 use Rattle.mm_c_machine.specs.State.{seen}
 use Rattle.mm_c_machine.proofs.Moves.{no_function}
-use Rattle.mm_c_machine.proofs.Giving.{enters_if, function_there, function_none, function_fits}
+use Rattle.mm_c_machine.proofs.Giving.{enters_if, function_there, function_none}
 use Rattle.mm_c_machine.proofs.machine.Machine.run_found.Goals as goal
 
 pub returns-in-None-clause-ok : goal.returns-in-None-clause-ok

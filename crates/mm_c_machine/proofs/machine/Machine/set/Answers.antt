@@ -1,7 +1,6 @@
-use Rattle.std.proofs.Common.{◌≡◌, ℕ, ◌+◌, List, reverse, refl, arith}
+use Rattle.std.proofs.Common.{◌+◌, reverse, refl, arith}
 use Rattle.std.proofs.lemmas.List.{drop-set-add, take-set-le}
 use Rattle.mm_c_machine.proofs.Stack.{pieces-below}
-use Rattle.mm_c_machine.proofs.Moves.{core}
 use Rattle.mm_c_machine.proofs.machine.Machine.set.Goals as goal
 
 pub returns-clause-core : goal.returns-clause-core

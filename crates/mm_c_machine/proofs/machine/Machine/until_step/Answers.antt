@@ -1,8 +1,4 @@
-use Rattle.std.proofs.Common.{refl}
-use Rattle.mm_base.specs.Calls.{world_view}
-use Rattle.mm_c_placed.specs.View.{program_view}
-use Rattle.mm_c_machine.specs.State.{seen}
-use Rattle.mm_c_machine.proofs.Ways.{way_start, way_more, way_steps, way_ends, way_refused}
+use Rattle.mm_c_machine.proofs.Ways.{way_start, way_more, way_steps, way_ends}
 use Rattle.mm_c_machine.proofs.machine.Machine.until_step.Goals as goal
 
 pub loop-e-init : goal.loop-e-init

@@ -1,5 +1,4 @@
-use Rattle.std.proofs.Common.{◌≡◌, ◌%◌, ◌+◌, ◌/◌, ◌≤◌, length, ap, subst, sym, ◌∙◌, arith}
-use Rattle.mm_c_memory.specs.Held.{AreEmpty}
+use Rattle.std.proofs.Common.{sym, ◌∙◌, arith}
 use Rattle.mm_c_memory.proofs.Blocks.{room_cell, room_inside, room_empty}
 use Rattle.mm_c_memory.proofs.memory.Block.has_room.Goals as goal
 

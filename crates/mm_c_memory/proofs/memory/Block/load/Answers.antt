@@ -1,4 +1,4 @@
-use Rattle.std.proofs.Common.{◌≡◌, ap, sym, ◌∙◌, Some}
+use Rattle.std.proofs.Common.{ap, sym, ◌∙◌, Some}
 use Rattle.mm_c_memory.proofs.Blocks.{load_cell, load_zero}
 use Rattle.mm_c_memory.proofs.memory.Block.load.Goals as goal
 

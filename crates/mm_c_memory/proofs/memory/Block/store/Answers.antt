@@ -1,4 +1,4 @@
-use Rattle.std.proofs.Common.{◌≡◌, sym, refl, ◌∙◌}
+use Rattle.std.proofs.Common.{sym, refl, ◌∙◌}
 use Rattle.mm_c_memory.proofs.Blocks.{stored_there}
 use Rattle.mm_c_memory.proofs.memory.Block.store.Goals as goal
 

@@ -1,4 +1,4 @@
-use Rattle.std.proofs.Common.{◌≡◌, ◌++◌, ◌∷◌, [], ℕ, length, ap, sym, subst, ◌∙◌, arith}
+use Rattle.std.proofs.Common.{◌≡◌, ◌++◌, ◌∷◌, [], length, ap, sym, subst, arith}
 use Rattle.mm_c.specs.Memory.{fresh}
 use Rattle.mm_c.specs.declared.value.CValue.TheVariants.{At}
 use Rattle.mm_c_memory.specs.Held.{HoldBlocks}

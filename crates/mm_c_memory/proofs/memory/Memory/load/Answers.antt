@@ -1,4 +1,4 @@
-use Rattle.std.proofs.Common.{◌≡◌, ◌+◌, ◌<◌, ◌≤◌, length, ap, sym, ◌∙◌, arith}
+use Rattle.std.proofs.Common.{◌+◌, ◌<◌, ◌≤◌, length, ap, sym, ◌∙◌, arith}
 use Rattle.mm_c.specs.Memory.{load, load_in}
 use Rattle.mm_c_memory.proofs.Memories.{held_at, no_load}
 use Rattle.mm_c_memory.proofs.memory.Memory.load.Goals as goal

@@ -1,4 +1,4 @@
-use Rattle.std.proofs.Common.{◌≡◌, ◌<◌, ◌≤◌, length, Some, ap, sym, ◌∙◌, arith}
+use Rattle.std.proofs.Common.{◌<◌, ◌≤◌, length, Some, ap, sym, ◌∙◌, arith}
 use Rattle.mm_c_memory.specs.Held.{size_in}
 use Rattle.mm_c_memory.proofs.Memories.{held_at, none_past}
 use Rattle.mm_c_memory.proofs.memory.Memory.size_of.Goals as goal

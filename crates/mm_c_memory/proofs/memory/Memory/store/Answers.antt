@@ -1,4 +1,4 @@
-use Rattle.std.proofs.Common.{◌≡◌, ◌+◌, ◌<◌, ◌≤◌, false, length, None, ap, sym, subst, refl, ◌∙◌, arith}
+use Rattle.std.proofs.Common.{◌<◌, ◌≤◌, false, length, ap, sym, subst, refl, ◌∙◌, arith}
 use Rattle.mm_c.specs.Memory.{store}
 use Rattle.mm_c_memory.specs.Held.{Stores}
 use Rattle.mm_c_memory.proofs.Memories.{held_at, stores_at, no_store}
