@@ -1,0 +1,5 @@
+pub mod Places
+pub mod Placed
+pub mod Seen
+pub mod Near
+pub mod Does
