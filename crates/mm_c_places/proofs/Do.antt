@@ -84,12 +84,15 @@ module _ {A : Type 0} (all : List CLocal) where
 
 -- ---- operands
 
+pub long_same : (m : ℕ) → nat_lt m (2 ^ 31) ≡ true → to_int m ≡ pos m
+long_same m e = ap (λ b. if b then pos m else negsuc (2 ^ 32 - suc m)) e
+
 number_same : (m : CNumber) → is_number m ≡ true → number m ≡ number_value m
 number_same m e = go m.is_unsigned e
   where
     go : (b : Bool) → nat_lt m.value (if b then 2 ^ 32 else 2 ^ 31) ≡ true → (if b then Unsigned m.value else Int (to_int m.value)) ≡ (if b then Unsigned m.value else Int (pos m.value))
     go true e = refl
-    go false e = ap (λ b. Int (if b then pos m.value else negsuc (2 ^ 32 - suc m.value))) e
+    go false e = ap Int (long_same m.value e)
 
 pub opposite_same : (m : ℕ) → nat_lt m (2 ^ 31) ≡ true → opposite m ≡ minus m
 opposite_same zero e = refl

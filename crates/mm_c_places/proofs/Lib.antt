@@ -1,3 +1,4 @@
 pub mod Seen
 pub mod Nears
 pub mod Do
+pub mod Runs

@@ -1,3 +1,4 @@
+pub mod Locals
 pub mod Places
 pub mod Placed
 pub mod Seen

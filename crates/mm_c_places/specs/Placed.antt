@@ -1,5 +1,5 @@
 -- The program in which numbers stand for the names of a program. (Own.)
-use Rattle.std.specs.Prelude.{ℕ, ◌-◌, ◌%◌, ◌^◌, ℤ, pos, negsuc, List, [], ◌∷◌, ◌++◌, length, map, Option, Some, None, codes, if◌then◌else◌}
+use Rattle.std.specs.Prelude.{ℕ, ◌-◌, ◌%◌, ◌^◌, ℤ, pos, negsuc, List, [], ◌∷◌, length, map, Option, Some, None, codes, if◌then◌else◌}
 use Rattle.mm_base.specs.Num.{to_int}
 use Rattle.mm_c.specs.declared.value.CValue.{CValue}
 use Rattle.mm_c.specs.declared.value.CValue.TheVariants.{Int, Unsigned}
@@ -18,7 +18,7 @@ use Rattle.mm_c.specs.declared.tree.CElement.{CElement}
 use Rattle.mm_c.specs.declared.tree.CElement.TheVariants as element_is
 use Rattle.mm_c.specs.Tree.{Stmt, assign, store, run, if_only, if_else, forever, break, continue, leave, return, Block, block, Code, done, do_then, Function, Item, typedef, array, proto, function, Program}
 use Rattle.mm_c.specs.CMeaning.{atoms_in}
-use Rattle.mm_c.specs.WellFormed.{is_inline, locals_of, kinds_of}
+use Rattle.mm_c.specs.WellFormed.{is_inline, kinds_of}
 use Rattle.mm_c_placed.specs.declared.tree.Operand.{Operand}
 use Rattle.mm_c_placed.specs.declared.tree.Operand.TheVariants.{Place, Value}
 use Rattle.mm_c_placed.specs.declared.tree.Address.{Address}
@@ -32,6 +32,7 @@ use Rattle.mm_c_placed.specs.declared.tree.Local.{Local}
 use Rattle.mm_c_placed.specs.declared.tree.Element as p_element
 use Rattle.mm_c_placed.specs.declared.tree.Element.TheVariants as p_element_is
 use Rattle.mm_c_placed.specs.Tree as t
+use Rattle.mm_c_places.specs.Locals.{all_locals}
 use Rattle.mm_c_places.specs.Places.{place_of, local_of, function_number, array_number, callee_at}
 
 -- the `int` that is congruent to a number, and to its opposite, modulo 2^32
@@ -106,10 +107,6 @@ module _ (items : List Item) (all : List CLocal) where
     pub placed_code : Code → t.Code
     placed_code done = t.done
     placed_code (do_then s more) = t.do_then (placed_stmt s) (placed_code more)
-
--- the parameters of a function, and then the locals of all its blocks
-abbrev pub all_locals : Function → List CLocal
-all_locals f = f.params ++ locals_of f.body
 
 abbrev pub placed_function : List Item → Function → t.Function
 placed_function items f = record {

@@ -9,9 +9,12 @@ use Rattle.mm_c.specs.declared.tree.CCall.TheVariants.{Named, Element}
 use Rattle.mm_c.specs.declared.tree.CExpr.{CExpr}
 use Rattle.mm_c.specs.declared.tree.CExpr.TheVariants.{Atom, Binary, ToInt, ToUnsigned, Load, Index, Call}
 use Rattle.mm_c.specs.declared.tree.CLocal.{CLocal}
-use Rattle.mm_c.specs.Tree.{Stmt, assign, store, run, if_only, if_else, forever, break, continue, leave, return, Block, block, Code, done, do_then}
+use Rattle.mm_c.specs.declared.tree.CElement.{CElement}
+use Rattle.mm_c.specs.declared.tree.CElement.TheVariants as element_is
+use Rattle.mm_c.specs.Tree.{Stmt, assign, store, run, if_only, if_else, forever, break, continue, leave, return, Block, block, Code, done, do_then, Function, Item, typedef, array, proto, function}
 use Rattle.mm_c.specs.Tokens.{is_number}
 use Rattle.mm_c.specs.WellFormed.{kind_in}
+use Rattle.mm_c_places.specs.Locals.{all_locals}
 
 -- a name of one of these locals
 abbrev pub Sees : List CLocal → List ℕ → Type 0
@@ -75,3 +78,28 @@ abbrev mutual
   pub SeesCode : List CLocal → List CLocal → Code → Type 0
   SeesCode all scope done = Unit {0}
   SeesCode all scope (do_then s more) = SeesStmt all scope s × SeesCode all scope more
+
+-- ---- functions, arrays, programs
+
+-- A function's parameters differ from each other, and each name is seen where it is used.
+pub record SeesFunction (f : Function) : Type 0 where
+  pub differ : Differ f.params
+  pub params : Agree (all_locals f) f.params
+  pub body : SeesBlock (all_locals f) f.params f.body
+
+-- a number that a `long` holds
+abbrev pub SeesElement : CElement → Type 0
+SeesElement (element_is.Name f) = Unit {0}
+SeesElement (element_is.Number n) = nat_lt n.value (2 ^ 31) ≡ true
+SeesElement (element_is.Negative n) = nat_lt n.value (2 ^ 31) ≡ true
+
+abbrev pub SeesElements : List CElement → Type 0
+SeesElements [] = Unit {0}
+SeesElements (e ∷ es) = SeesElement e × SeesElements es
+
+abbrev pub SeesItems : List Item → Type 0
+SeesItems [] = Unit {0}
+SeesItems (typedef d ∷ more) = SeesItems more
+SeesItems (array a ∷ more) = SeesElements a.elements × SeesItems more
+SeesItems (proto p ∷ more) = SeesItems more
+SeesItems (function f ∷ more) = SeesFunction f × SeesItems more
