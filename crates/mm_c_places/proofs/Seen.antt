@@ -155,19 +155,19 @@ module _ (h : Here) where
   returned_sees None a e = absurd (cc)
   returned_sees (Some k) a e = atom_sees k a e
 
-agree_left : (all xs ys : List CLocal) → Agree all (xs ++ ys) → Agree all xs
+pub agree_left : (all xs ys : List CLocal) → Agree all (xs ++ ys) → Agree all xs
 agree_left all [] ys h = tt
 agree_left all (x ∷ xs) ys h = (h.0, agree_left all xs ys h.1)
 
-agree_right : (all xs ys : List CLocal) → Agree all (xs ++ ys) → Agree all ys
+pub agree_right : (all xs ys : List CLocal) → Agree all (xs ++ ys) → Agree all ys
 agree_right all [] ys h = h
 agree_right all (x ∷ xs) ys h = agree_right all xs ys h.1
 
-fine : (b : Bool) (bs : List Bool) → list_any is_true (not b ∷ bs) ≡ false → b ≡ true
+pub fine : (b : Bool) (bs : List Bool) → list_any is_true (not b ∷ bs) ≡ false → b ≡ true
 fine true bs e = refl
 fine false bs e = absurd (cc)
 
-after : (b : Bool) (bs : List Bool) → list_any is_true (not b ∷ bs) ≡ false → list_any is_true bs ≡ false
+pub after : (b : Bool) (bs : List Bool) → list_any is_true (not b ∷ bs) ≡ false → list_any is_true bs ≡ false
 after true bs e = e
 after false bs e = absurd (cc)
 

@@ -4,3 +4,4 @@ pub mod Placed
 pub mod Seen
 pub mod Near
 pub mod Does
+pub mod Laws

@@ -1,2 +1,4 @@
-//! That a C program does with places what it does with names. Definitions and lemmas alone.
+//! That a C program does with numbers what it does with names.
 #![tactic(auto)]
+
+pub mod laws;
