@@ -1,4 +1,4 @@
-// The limits on units, and on the classes that they declare.
+// The limits on units, on the classes that they declare, on C texts and on inputs.
 
 /// The most bytes of one file, and of a unit with its headers.
 pub const MAX_UNIT_BYTES: u64 = 1_048_576;
@@ -20,3 +20,12 @@ pub const MAX_SUBOBJECTS: usize = 256;
 
 /// The most fields that a class declares.
 pub const MAX_FIELDS: u64 = 524_288;
+
+/// The most bytes of a C text that is run.
+pub const MAX_C_BYTES: u64 = 134_217_728;
+
+/// In how many blocks of a C text a block may stand.
+pub const MAX_C_NESTING: usize = 4096;
+
+/// The most bytes of the input of a run.
+pub const MAX_INPUT_BYTES: usize = 1_048_576;
