@@ -13,7 +13,7 @@ use Rattle.mm_c.specs.CMeaning.{Names, Kinds, zero_of, fitted, no_names, no_kind
 use Rattle.mm_c_placed.specs.declared.tree.Local.{Local}
 use Rattle.mm_c_placed.specs.Meaning as c
 use Rattle.mm_c_placed.specs.Meaning.{Frame, start}
-use Rattle.mm_c_places.specs.Places.{place_of}
+use Rattle.mm_c_places.specs.Places.{place_of, places}
 use Rattle.mm_c_places.specs.Placed.{own_local}
 use Rattle.mm_c_places.specs.Seen.{Sees, Agree, Differ}
 use Rattle.mm_c_places.specs.Near.{Near}
@@ -125,7 +125,7 @@ module _ (all : List CLocal) where
       go false b d e = e
 
   -- a block is entered
-  pub near_zeroed : (xs scope : List CLocal) (names : Names) (kinds : Kinds) (frame : Frame) → Agree all xs → Near all scope names kinds frame → Near all (xs ++ scope) (n.zeroed xs names) (n.with_kinds xs kinds) (c.zeroed (map (own_local all) xs) frame)
+  pub near_zeroed : (xs scope : List CLocal) (names : Names) (kinds : Kinds) (frame : Frame) → Agree all xs → Near all scope names kinds frame → Near all (xs ++ scope) (n.zeroed xs names) (n.with_kinds xs kinds) (c.zeroed (map (own_local (places all)) xs) frame)
   near_zeroed [] scope names kinds frame g near = near
   near_zeroed (l ∷ xs) scope names kinds frame g near =
       near_less (xs ++ (l ∷ scope)) (l ∷ xs ++ scope) _ _ _ (moved l xs scope)

@@ -9,7 +9,7 @@ use Rattle.mm_c.specs.CMeaning.{Stop, State, Names, Kinds, From}
 use Rattle.mm_c.specs.CMeaning as n
 use Rattle.mm_c_placed.specs.Meaning.{Frame}
 use Rattle.mm_c_placed.specs.Meaning as c
-use Rattle.mm_c_places.specs.Places.{array_number, callee_at}
+use Rattle.mm_c_places.specs.Places.{array_number, callee_at, numbers}
 use Rattle.mm_c_places.specs.Near.{Near}
 
 -- Both gave the same and left the same, and what is seen is still near; or both stopped in the same way.
@@ -26,6 +26,6 @@ pub record Does {A : Type 0} (all before after : List CLocal) (m : From n.Store 
 
 -- what is around statements is the same by name and by number
 pub record SameAround (items : List Item) (m : n.Around) (m' : c.Around) : Type 0 where
-  pub call : (f : List ℕ) (vs : List CValue) (w : State) (k : ℕ) → m.call f vs w k ≡ m'.call (callee_at items f) vs w k
-  pub functions : (a : List ℕ) (i : ℤ) → option_map (callee_at items) (m.function_at a i) ≡ m'.function_at (array_number items a) i
+  pub call : (f : List ℕ) (vs : List CValue) (w : State) (k : ℕ) → m.call f vs w k ≡ m'.call (callee_at (numbers items) f) vs w k
+  pub functions : (a : List ℕ) (i : ℤ) → option_map (callee_at (numbers items)) (m.function_at a i) ≡ m'.function_at (array_number items a) i
   pub numbers : (a : List ℕ) (i : ℤ) → m.number_at a i ≡ m'.number_at (array_number items a) i

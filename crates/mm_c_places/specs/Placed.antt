@@ -33,7 +33,7 @@ use Rattle.mm_c_placed.specs.declared.tree.Element as p_element
 use Rattle.mm_c_placed.specs.declared.tree.Element.TheVariants as p_element_is
 use Rattle.mm_c_placed.specs.Tree as t
 use Rattle.mm_c_places.specs.Locals.{all_locals}
-use Rattle.mm_c_places.specs.Places.{place_of, local_of, function_number, array_number, callee_at}
+use Rattle.mm_c_places.specs.Places.{Places, Numbers, places, numbers, function_number, callee_at}
 
 -- the `int` that is congruent to a number, and to its opposite, modulo 2^32
 abbrev pub opposite : ℕ → ℤ
@@ -42,64 +42,67 @@ opposite n = to_int ((2 ^ 32 - n) % 2 ^ 32)
 abbrev pub number : CNumber → CValue
 number n = if n.is_unsigned then Unsigned n.value else Int (to_int n.value)
 
--- ---- what names locals alone; `all` are the locals of the function
+-- ---- what names locals alone
 
-abbrev pub operand : List CLocal → CAtom → Operand
-operand all (Name x) = Place (place_of all x)
-operand all (Number n) = Value (number n)
-operand all (Negative n) = Value (Int (opposite n.value))
-operand all Least = Value (Int (negsuc 2147483647))
+abbrev pub operand : Places → CAtom → Operand
+operand ps (Name x) = Place (ps.place x)
+operand ps (Number n) = Value (number n)
+operand ps (Negative n) = Value (Int (opposite n.value))
+operand ps Least = Value (Int (negsuc 2147483647))
 
-abbrev pub operands : List CLocal → List CAtom → List Operand
-operands all = map (operand all)
+abbrev pub operands : Places → List CAtom → List Operand
+operands ps = map (operand ps)
 
-abbrev pub address : List CLocal → CAddress → Address
-address all p = record { pointer = place_of all p.pointer; offset = p.offset.value }
+abbrev pub address : Places → CAddress → Address
+address ps p = record { pointer = ps.place p.pointer; offset = p.offset.value }
 
-abbrev pub index : List CLocal → CIndex → p_index.Index
-index all (index_is.Name x) = p_index_is.Place (place_of all x)
-index all (index_is.Tag p) = p_index_is.Tag (address all p)
+abbrev pub index : Places → CIndex → p_index.Index
+index ps (index_is.Name x) = p_index_is.Place (ps.place x)
+index ps (index_is.Tag p) = p_index_is.Tag (address ps p)
 
--- a local of a block
-abbrev pub own_local : List CLocal → CLocal → Local
-own_local all l = record { place = place_of all l.name; kind = l.kind }
+-- a local by its name, and one that a block declares
+abbrev pub local_of : Places → List ℕ → Local
+local_of ps x = record { place = ps.place x; kind = ps.kind x }
 
--- ---- what names functions and arrays too; `items` are those of the program
+abbrev pub own_local : Places → CLocal → Local
+own_local ps l = record { place = ps.place l.name; kind = l.kind }
 
-module _ (items : List Item) (all : List CLocal) where
+-- ---- what names functions and arrays too
+
+module _ (ns : Numbers) (ps : Places) where
   abbrev pub target : CCall → Target
-  target (Named f atoms) = target_is.Named (callee_at items f)
-  target (Element a x atoms) = target_is.Element (array_number items a) (place_of all x)
+  target (Named f atoms) = target_is.Named (callee_at ns f)
+  target (Element a x atoms) = target_is.Element (ns.array a) (ps.place x)
 
   abbrev pub call : Option Local → CCall → t.Stmt
-  call x c = t.run x (target c) (operands all (atoms_in c))
+  call x c = t.run x (target c) (operands ps (atoms_in c))
 
   abbrev pub assigned : Local → CExpr → t.Stmt
-  assigned x (Atom a) = t.assign x (right_is.Copy (operand all a))
-  assigned x (Binary a o b) = t.assign x (right_is.Binary (operand all a) o (operand all b))
-  assigned x (ToInt y) = t.assign x (right_is.ToInt (place_of all y))
-  assigned x (ToUnsigned y) = t.assign x (right_is.ToUnsigned (place_of all y))
-  assigned x (Load c p) = t.assign x (right_is.Load c (address all p))
-  assigned x (Index a i) = t.assign x (right_is.Index (array_number items a) (index all i))
+  assigned x (Atom a) = t.assign x (right_is.Copy (operand ps a))
+  assigned x (Binary a o b) = t.assign x (right_is.Binary (operand ps a) o (operand ps b))
+  assigned x (ToInt y) = t.assign x (right_is.ToInt (ps.place y))
+  assigned x (ToUnsigned y) = t.assign x (right_is.ToUnsigned (ps.place y))
+  assigned x (Load c p) = t.assign x (right_is.Load c (address ps p))
+  assigned x (Index a i) = t.assign x (right_is.Index (ns.array a) (index ps i))
   assigned x (Call c) = call (Some x) c
 
   -- A block without locals is its statements alone.
   abbrev pub with_locals : List CLocal → t.Code → t.Code
   with_locals [] code = code
-  with_locals (x ∷ xs) code = t.do_then (t.locals (map (own_local all) (x ∷ xs))) code
+  with_locals (x ∷ xs) code = t.do_then (t.locals (map (own_local ps) (x ∷ xs))) code
 
   abbrev mutual
     pub placed_stmt : Stmt → t.Stmt
-    placed_stmt (assign x r) = assigned (local_of all x) r
-    placed_stmt (store c p a) = t.store c (address all p) (operand all a)
+    placed_stmt (assign x r) = assigned (local_of ps x) r
+    placed_stmt (store c p a) = t.store c (address ps p) (operand ps a)
     placed_stmt (run c) = call None c
-    placed_stmt (if_only a b) = t.if_else (operand all a) (placed_block b) t.done
-    placed_stmt (if_else a b c) = t.if_else (operand all a) (placed_block b) (placed_block c)
+    placed_stmt (if_only a b) = t.if_else (operand ps a) (placed_block b) t.done
+    placed_stmt (if_else a b c) = t.if_else (operand ps a) (placed_block b) (placed_block c)
     placed_stmt (forever b) = t.forever (placed_block b)
     placed_stmt break = t.break
     placed_stmt continue = t.continue
     placed_stmt leave = t.leave
-    placed_stmt (return a) = t.return (operand all a)
+    placed_stmt (return a) = t.return (operand ps a)
 
     pub placed_block : Block → t.Code
     placed_block (block xs code) = with_locals xs (placed_code code)
@@ -108,34 +111,34 @@ module _ (items : List Item) (all : List CLocal) where
     placed_code done = t.done
     placed_code (do_then s more) = t.do_then (placed_stmt s) (placed_code more)
 
-abbrev pub placed_function : List Item → Function → t.Function
-placed_function items f = record {
+abbrev pub placed_function : Numbers → Function → t.Function
+placed_function ns f = record {
   is_inline = is_inline f.linkage;
   result = f.result;
   params = kinds_of f.params;
   slots = length (all_locals f);
-  body = placed_block items (all_locals f) f.body;
+  body = placed_block ns (places (all_locals f)) f.body;
 }
 
-abbrev pub placed_element : List Item → CElement → p_element.Element
-placed_element items (element_is.Name f) = p_element_is.Function (callee_at items f)
-placed_element items (element_is.Number n) = p_element_is.Number (to_int n.value)
-placed_element items (element_is.Negative n) = p_element_is.Number (opposite n.value)
+abbrev pub placed_element : Numbers → CElement → p_element.Element
+placed_element ns (element_is.Name f) = p_element_is.Function (callee_at ns f)
+placed_element ns (element_is.Number n) = p_element_is.Number (to_int n.value)
+placed_element ns (element_is.Negative n) = p_element_is.Number (opposite n.value)
 
 -- the functions among items, and the arrays
-abbrev pub placed_functions : List Item → List Item → List t.Function
-placed_functions items [] = []
-placed_functions items (function f ∷ more) = placed_function items f ∷ placed_functions items more
-placed_functions items (typedef d ∷ more) = placed_functions items more
-placed_functions items (array a ∷ more) = placed_functions items more
-placed_functions items (proto p ∷ more) = placed_functions items more
+abbrev pub placed_functions : Numbers → List Item → List t.Function
+placed_functions ns [] = []
+placed_functions ns (function f ∷ more) = placed_function ns f ∷ placed_functions ns more
+placed_functions ns (typedef d ∷ more) = placed_functions ns more
+placed_functions ns (array a ∷ more) = placed_functions ns more
+placed_functions ns (proto p ∷ more) = placed_functions ns more
 
-abbrev pub placed_arrays : List Item → List Item → List (List p_element.Element)
-placed_arrays items [] = []
-placed_arrays items (array a ∷ more) = map (placed_element items) a.elements ∷ placed_arrays items more
-placed_arrays items (typedef d ∷ more) = placed_arrays items more
-placed_arrays items (proto p ∷ more) = placed_arrays items more
-placed_arrays items (function f ∷ more) = placed_arrays items more
+abbrev pub placed_arrays : Numbers → List Item → List (List p_element.Element)
+placed_arrays ns [] = []
+placed_arrays ns (array a ∷ more) = map (placed_element ns) a.elements ∷ placed_arrays ns more
+placed_arrays ns (typedef d ∷ more) = placed_arrays ns more
+placed_arrays ns (proto p ∷ more) = placed_arrays ns more
+placed_arrays ns (function f ∷ more) = placed_arrays ns more
 
 abbrev pub placed : Program → t.Program
-placed p = record { functions = placed_functions p.items p.items; arrays = placed_arrays p.items p.items; main = function_number p.items (codes "main") }
+placed p = record { functions = placed_functions (numbers p.items) p.items; arrays = placed_arrays (numbers p.items) p.items; main = function_number p.items (codes "main") }
