@@ -1,0 +1,4 @@
+//! Puts places and numbers for the names of a C program.
+#![tactic(auto)]
+
+pub mod numbers;
