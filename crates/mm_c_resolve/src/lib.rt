@@ -3,3 +3,5 @@
 
 pub mod numbers;
 pub mod locals;
+pub mod names;
+pub mod code;
