@@ -5,3 +5,4 @@ pub mod numbers;
 pub mod locals;
 pub mod names;
 pub mod code;
+pub mod program;
