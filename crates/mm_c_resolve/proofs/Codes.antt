@@ -1,21 +1,17 @@
 -- What a walk over statements comes to, with numbers for names.
-use Rattle.std.proofs.Common.{◌≡◌, ℕ, ◌+◌, ◌<◌, List, [], ◌∷◌, ◌++◌, length, map, take, get_or, refl, sym, ap, ap₂, ◌∙◌}
+use Rattle.std.proofs.Common.{◌≡◌, ℕ, ◌+◌, ◌<◌, List, [], ◌∷◌, ◌++◌, length, take, get_or, refl, sym, ap, ◌∙◌}
 use Rattle.std.proofs.lemmas.List.{take_more}
-use Rattle.mm_c.specs.declared.tree.CAtom.{CAtom}
-use Rattle.mm_c.specs.declared.tree.CCall.{CCall}
-use Rattle.mm_c.specs.declared.tree.CAddress.{CAddress}
-use Rattle.mm_c.specs.declared.tree.CExpr.{CExpr}
 use Rattle.mm_c.specs.declared.tree.CLocal.{CLocal}
 use Rattle.mm_c.specs.declared.tree.CStmt.{CStmt}
 use Rattle.mm_c.specs.declared.tree.CBlock.{CBlock}
 use Rattle.mm_c.specs.View.{stmt_view, block_view, code_view}
 use Rattle.mm_c.proofs.Views.{view-Assign, view-Store, view-Call, view-If, view-IfElse, view-While, view-Break, view-Continue, view-Return, view-ReturnValue, view-block}
-use Rattle.mm_c_placed.specs.Tree.{Code, done, do_then, ◌⨾◌, just}
+use Rattle.mm_c_placed.specs.Tree.{Code, do_then, ◌⨾◌, just}
 use Rattle.mm_c_placed.specs.declared.tree.PlacedStmt.{PlacedStmt}
 use Rattle.mm_c_placed.specs.View as p
 use Rattle.mm_c_placed.proofs.Views.{placed_rules, ⨾-assoc}
 use Rattle.mm_c_places.specs.Places.{Places, Numbers}
-use Rattle.mm_c_places.specs.Placed.{own_local, with_locals, placed_stmt, placed_block, placed_code}
+use Rattle.mm_c_places.specs.Placed.{with_locals, placed_stmt, placed_block, placed_code}
 
 pub view-append : (as_ bs : List PlacedStmt) → p.code_view (as_ ++ bs) ≡ p.code_view as_ ⨾ p.code_view bs
 view-append [] bs = refl

@@ -1,5 +1,5 @@
 -- Items, one after another, and what the whole is.
-use Rattle.std.specs.Prelude.{Bool, true, false, Option, Some, None, slice_get, codes}
+use Rattle.std.specs.Prelude.{Bool, true, false, Option, Some, slice_get, codes}
 use Rattle.std.specs.Borrow.{Bor}
 use Rattle.std.specs.Str.{bytes_eq}
 use Rattle.std.proofs.Common.{◌≡◌, ℕ, zero, suc, ◌+◌, ◌<◌, List, [], ◌∷◌, ◌++◌, length, map, take, get_or, refl, sym, ap, ap₂, ◌∙◌}
@@ -7,11 +7,7 @@ use Rattle.std.proofs.lemmas.List.{take_more, map-append, length-map, append-nil
 use Rattle.mm_c.specs.declared.tree.CKind.{CKind}
 use Rattle.mm_c.specs.declared.tree.CLocal.{CLocal}
 use Rattle.mm_c.specs.declared.tree.CItem.{CItem}
-use Rattle.mm_c.specs.declared.tree.CItem.TheVariants as item
 use Rattle.mm_c.specs.declared.tree.CFn.{CFn}
-use Rattle.mm_c.specs.declared.tree.CArray.{CArray}
-use Rattle.mm_c.specs.declared.tree.CProto.{CProto}
-use Rattle.mm_c.specs.declared.tree.CTypedef.{CTypedef}
 use Rattle.mm_c.specs.declared.tree.CProgram.{CProgram}
 use Rattle.mm_c.specs.View.{function_view, item_view, block_view, program_view}
 use Rattle.mm_c.specs.Tree.{Item, typedef, array, proto, function}
@@ -21,12 +17,12 @@ use Rattle.mm_c_placed.specs.View as p
 use Rattle.mm_c_placed.specs.declared.tree.Element.{Element}
 use Rattle.mm_c_placed.specs.declared.tree.PlacedFunction.{PlacedFunction}
 use Rattle.mm_c_placed.specs.declared.tree.PlacedArray.{PlacedArray}
-use Rattle.mm_c_places.specs.Places.{Numbers, Places, places, numbers, index_of, names_of, place_of, kind_or, function_names, array_names}
+use Rattle.mm_c_places.specs.Places.{Numbers, places, numbers, place_of, kind_or, function_names, array_names}
 use Rattle.mm_c_places.specs.Placed.{placed_block, placed_function, placed_element, placed_functions, placed_arrays, placed}
 use Rattle.mm_c_places.specs.Locals.{all_locals}
 use Rattle.mm_c_resolve.specs.declared.locals.Declared.{Declared}
 use Rattle.mm_c_resolve.specs.declared.names.Globals.{Globals}
-use Rattle.mm_c_resolve.specs.Numbering.{at_name, AreNumbered, texts}
+use Rattle.mm_c_resolve.specs.Numbering.{at_name, texts}
 use Rattle.mm_c_resolve.specs.Held.{AreDeclared}
 use Rattle.mm_c_resolve.specs.Named.{places_in, numbers_in, AreGlobal, elements_of, function_name_in, array_name_in, function_in, array_in}
 

@@ -4,7 +4,6 @@ use Rattle.std.proofs.Common.{◌≡◌, ℕ, ◌+◌, ◌<◌, List, [], ◌∷
 use Rattle.std.proofs.lemmas.List.{take_more, map-append, append-nil}
 use Rattle.mm_c.specs.declared.tree.CLocal.{CLocal}
 use Rattle.mm_c.specs.declared.tree.CStmt.{CStmt}
-use Rattle.mm_c.specs.declared.tree.CBlock.{CBlock}
 use Rattle.mm_c.specs.View.{stmt_view, block_view, code_view}
 use Rattle.mm_c.specs.WellFormed.{locals_of, code_locals, stmt_locals}
 use Rattle.mm_c.proofs.Views.{view-Assign, view-Store, view-Call, view-If, view-IfElse, view-While, view-Break, view-Continue, view-Return, view-ReturnValue, view-block}

@@ -8,7 +8,7 @@ ghost use Rattle.mm_c_places.specs.Placed.{own_local, with_locals, placed_stmt, 
 ghost use Rattle.mm_c_resolve.specs.Named.{places_in, numbers_in};
 
 use crate::locals::Declared;
-use crate::names::{address, assigned, call, local, operand, Globals};
+use crate::names::{Globals, address, assigned, call, local, operand};
 use mm_c::tree::{CBlock, CLocal, CStmt};
 use mm_c_placed::tree::{Local, PlacedStmt};
 use sqlite_items::Items;

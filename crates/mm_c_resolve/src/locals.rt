@@ -8,7 +8,7 @@ ghost use Rattle.mm_c_places.specs.Places.{names_of};
 ghost use Rattle.mm_c_resolve.specs.Numbering.{AreNumbered, texts};
 ghost use Rattle.mm_c_resolve.specs.Held.{seen, AreDeclared};
 
-use crate::numbers::{number_names, Numbering};
+use crate::numbers::{Numbering, number_names};
 use mm_c::tree::{CBlock, CFn, CKind, CLocal, CStmt};
 use std::alloc::{AllocError, Global};
 

@@ -7,15 +7,13 @@ ghost use Rattle.mm_c_places.specs.Placed.{opposite, number, operand, operands, 
 ghost use Rattle.mm_c_resolve.specs.Named.{places_in, numbers_in};
 
 use crate::locals::Declared;
-use crate::numbers::{find, Numbering};
+use crate::numbers::{Numbering, find};
 use mm_base::num::to_signed;
 use mm_base::text::Text;
 use mm_base::world::Builtin;
 use mm_c::tree::{CAddress, CAtom, CCall, CExpr, CIndex, CKind, CNumber};
 use mm_c::value::CValue;
-use mm_c_placed::tree::{
-    Address, Callee, Index, Local, Operand, PlacedStmt, Right, Target,
-};
+use mm_c_placed::tree::{Address, Callee, Index, Local, Operand, PlacedStmt, Right, Target};
 use sqlite_items::Items;
 use std::alloc::{AllocError, Global};
 

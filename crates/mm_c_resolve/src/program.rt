@@ -13,7 +13,7 @@ ghost use Rattle.mm_c_resolve.specs.Named.{numbers_in, AreGlobal, elements_of, f
 
 use crate::code::place_block;
 use crate::locals::declare;
-use crate::names::{callee, opposite, Globals};
+use crate::names::{Globals, callee, opposite};
 use crate::numbers::{find, number_names};
 use mm_base::num::to_signed;
 use mm_c::tree::{CArray, CElement, CFn, CItem, CKind, CLinkage, CLocal, CProgram};

@@ -1,12 +1,7 @@
-use Rattle.std.specs.Prelude.{Option, Some, None}
 use Rattle.std.specs.Borrow.{Bor}
-use Rattle.std.specs.Option.{unwrap_or}
-use Rattle.std.specs.Str.{bytes_eq}
-use Rattle.std.specs.HashMap.{get_by}
-use Rattle.std.proofs.Common.{◌≡◌, ◌+◌, ◌-◌, ◌<◌, suc, ℕ, List, [], length, refl, sym, ap, ◌∙◌, arith}
+use Rattle.std.proofs.Common.{◌-◌, ℕ, List, sym, ◌∙◌, arith}
 use Rattle.std.proofs.lemmas.List.{length-map}
-use Rattle.mm_c_resolve.specs.Numbering.{texts}
-use Rattle.mm_c_resolve.proofs.Numbered.{number_from, number_more, numbered_all}
+use Rattle.mm_c_resolve.proofs.Numbered.{number_more, numbered_all}
 use Rattle.mm_c_resolve.proofs.numbers.number_names.Goals as goal
 
 pub loop-i-preserved : goal.loop-i-preserved

@@ -1,9 +1,7 @@
-use Rattle.std.proofs.Common.{◌≡◌, map, sym, ap, ◌∙◌, subst}
+use Rattle.std.proofs.Common.{map, sym, subst}
 use Rattle.mm_c.specs.View as n
-use Rattle.mm_c_placed.specs.Tree.{Program}
-use Rattle.mm_c_placed.specs.View.{function_view, program_view}
+use Rattle.mm_c_placed.specs.View.{function_view}
 use Rattle.mm_c_placed.specs.Ready.{IsReady}
-use Rattle.mm_c_places.specs.Placed.{placed}
 use Rattle.mm_c_places.specs.Laws.{SameRuns}
 use Rattle.mm_c_places.proofs.Runs.{runs_same}
 use Rattle.mm_c_places.proofs.Whole.{well_formed_sees}
