@@ -1,7 +1,7 @@
 -- Statements do with places what they do with names.
-use Rattle.std.specs.Prelude.{Bool, true, false, ℤ, pos, negsuc, Option, Some, None, is_some, nat_lt, ◌^◌, ◌-◌, ◌%◌, if◌then◌else◌}
+use Rattle.std.specs.Prelude.{Bool, true, false, ℤ, pos, negsuc, Option, Some, None, nat_lt, ◌^◌, ◌-◌, ◌%◌, if◌then◌else◌}
 use Rattle.std.specs.Option.{option_map}
-use Rattle.std.proofs.Common.{◌≡◌, ℕ, zero, suc, ◌<◌, List, [], ◌∷◌, ◌++◌, map, refl, sym, ap, ap₂, ◌∙◌, subst, arith}
+use Rattle.std.proofs.Common.{◌≡◌, ℕ, zero, suc, List, [], ◌∷◌, ◌++◌, map, refl, sym, ap, ap₂, ◌∙◌, subst, arith}
 use Rattle.mm_base.specs.Num.{to_int}
 use Rattle.mm_meaning.specs.Run.{Run, Gives, Stops, ◌>>=◌, then, pure, stop, step, within}
 use Rattle.mm_meaning.proofs.Laws.{then_then}
@@ -9,7 +9,6 @@ use Rattle.mm_c.specs.declared.value.CCell.{CCell}
 use Rattle.mm_c.specs.declared.value.CCell.TheVariants as cell
 use Rattle.mm_c.specs.declared.value.CValue.{CValue}
 use Rattle.mm_c.specs.declared.value.CValue.TheVariants.{Int, Unsigned, Long, Null, At}
-use Rattle.mm_c.specs.declared.tree.CKind.{CKind}
 use Rattle.mm_c.specs.declared.tree.CNumber.{CNumber}
 use Rattle.mm_c.specs.declared.tree.CAtom.{CAtom}
 use Rattle.mm_c.specs.declared.tree.CAtom.TheVariants.{Name, Number, Negative, Least}
@@ -24,17 +23,15 @@ use Rattle.mm_c.specs.declared.tree.CLocal.{CLocal}
 use Rattle.mm_c.specs.Tokens.{is_number}
 use Rattle.mm_c.specs.Tree.{Stmt, assign, store, run, if_only, if_else, forever, break, continue, leave, return, Block, block, Code, done, do_then, Item}
 use Rattle.mm_c.specs.Memory as memory
-use Rattle.mm_c.specs.WellFormed.{kind_in}
 use Rattle.mm_c.specs.CMeaning.{Stop, Spent, Stuck, State, Names, Kinds, From, stuck, or_stuck, fitted, fitted_in, operate, as_int, as_unsigned, as_index, index_in, long_of, at_index, number_value, minus, atoms_in, values_of, Flow, Next, Broke, Continued, Returned}
 use Rattle.mm_c.specs.CMeaning as n
-use Rattle.mm_c_placed.specs.declared.tree.Callee.{Callee}
 use Rattle.mm_c_placed.specs.declared.tree.Right.{Right}
 use Rattle.mm_c_placed.specs.declared.tree.Right.TheVariants as right_is
 use Rattle.mm_c_placed.specs.Meaning.{Frame}
 use Rattle.mm_c_placed.specs.Meaning as c
 use Rattle.mm_c_placed.specs.Tree as t
 use Rattle.mm_c_places.specs.Places.{place_of, kind_or, array_number, callee_at, places, numbers}
-use Rattle.mm_c_places.specs.Placed.{opposite, number, operand, operands, address, index, own_local, local_of, target, call, assigned, with_locals, placed_stmt, placed_block, placed_code}
+use Rattle.mm_c_places.specs.Placed.{opposite, number, operand, operands, address, index, own_local, local_of, target, call, assigned, placed_stmt, placed_block, placed_code}
 use Rattle.mm_c_places.specs.Seen.{Sees, Agree, SeesAtom, SeesAtoms, SeesIndex, SeesCall, SeesRight, SeesStmt, SeesBlock, SeesCode}
 use Rattle.mm_c_places.specs.Near.{Near}
 use Rattle.mm_c_places.specs.Does.{Alike, both_give, both_stop, Does, SameAround}
@@ -150,7 +147,7 @@ module _ (items : List Item) (m : n.Around) (m' : c.Around) (same : SameAround i
     by = λ names kinds frame w k near.
         subst (λ r. Alike all scope (n.call_of m d (record { names = names; kinds = kinds; state = w }) k) (within (λ t. record { frame = frame; state = t }) r))
         (called_same (n.target_in m (record { names = names; kinds = kinds; state = w }) d) (values_of names (atoms_in d)) w k
-         ∙ ap₂ (λ o vs. c.called m' o vs w k) (target_same scope names kinds frame w near d h) (values_same scope names kinds frame near d h))
+        ∙ ap₂ (λ o vs. c.called m' o vs w k) (target_same scope names kinds frame w near d h) (values_same scope names kinds frame near d h))
         (within_alike all scope names kinds frame (n.called m (n.target_in m (record { names = names; kinds = kinds; state = w }) d) (values_of names (atoms_in d)) w k) near);
   }
 

@@ -1,7 +1,7 @@
 -- Names and places stay near where a local is set, a block is entered or left, and a function is entered.
 use Rattle.std.specs.Prelude.{Bool, true, false, ◌||◌, Option, Some, None, is_some, nat_eq, if◌then◌else◌, pos}
 use Rattle.std.specs.Str.{bytes_eq}
-use Rattle.std.proofs.Common.{◌≡◌, ℕ, zero, suc, ◌+◌, ◌<◌, List, [], ◌∷◌, ◌++◌, length, map, get_or, refl, sym, ap, ap₂, ◌∙◌, arith}
+use Rattle.std.proofs.Common.{◌≡◌, ℕ, zero, suc, List, [], ◌∷◌, ◌++◌, map, refl, sym, ap, ap₂, ◌∙◌, arith}
 use Rattle.std.proofs.lemmas.Slice.Eq.{bytes_eq-Decides}
 use Rattle.mm_c.specs.declared.value.CValue.{CValue}
 use Rattle.mm_c.specs.declared.value.CValue.TheVariants.{Int}
@@ -10,7 +10,6 @@ use Rattle.mm_c.specs.declared.tree.CLocal.{CLocal}
 use Rattle.mm_c.specs.WellFormed.{kind_in, kinds_of}
 use Rattle.mm_c.specs.CMeaning as n
 use Rattle.mm_c.specs.CMeaning.{Names, Kinds, zero_of, fitted, no_names, no_kinds}
-use Rattle.mm_c_placed.specs.declared.tree.Local.{Local}
 use Rattle.mm_c_placed.specs.Meaning as c
 use Rattle.mm_c_placed.specs.Meaning.{Frame, start}
 use Rattle.mm_c_places.specs.Places.{place_of, places}
@@ -132,7 +131,6 @@ module _ (all : List CLocal) where
       (near_zeroed xs (l ∷ scope) (n.with_name names l.name (zero_of l.kind)) (n.with_kind kinds l.name l.kind) (c.with_place frame (place_of all l.name) (zero_of l.kind)) g.1 (near_one scope names kinds frame l (zero_of l.kind) g.0 near))
 
 -- ---- a function is entered
-
 
 -- the parameters that a call gives, by name and by place: in both as many as there are arguments, or in neither
 data Gave (ps : List CLocal) (before : Names) : Option Names → Option (List CValue) → Type 0 where

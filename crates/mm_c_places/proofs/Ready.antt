@@ -2,8 +2,7 @@
 use Rattle.std.specs.Prelude.{Bool, true, false, ◌||◌, Option, Some, None, is_some, All}
 use Rattle.std.specs.Str.{bytes_eq}
 use Rattle.std.proofs.Common.{◌≡◌, ℕ, zero, suc, ◌<◌, List, [], ◌∷◌, ◌++◌, length, map, refl, sym, ap, ◌∙◌, arith}
-use Rattle.std.proofs.lemmas.List.Elements.{All-nil, All-cons, All-map}
-use Rattle.mm_c.specs.declared.tree.CKind.{CKind}
+use Rattle.std.proofs.lemmas.List.Elements.{All-nil, All-cons}
 use Rattle.mm_c.specs.declared.tree.CAtom.{CAtom}
 use Rattle.mm_c.specs.declared.tree.CAtom.TheVariants.{Name, Number, Negative, Least}
 use Rattle.mm_c.specs.declared.tree.CIndex.{CIndex}
@@ -14,16 +13,14 @@ use Rattle.mm_c.specs.declared.tree.CExpr.{CExpr}
 use Rattle.mm_c.specs.declared.tree.CExpr.TheVariants.{Atom, Binary, ToInt, ToUnsigned, Load, Index, Call}
 use Rattle.mm_c.specs.declared.tree.CLocal.{CLocal}
 use Rattle.mm_c.specs.Tree.{Stmt, assign, store, run, if_only, if_else, forever, break, continue, leave, return, Block, block, Code, done, do_then, Function, Item, typedef, array, proto, function, Program}
-use Rattle.mm_c.specs.CMeaning.{atoms_in}
 use Rattle.mm_c.specs.WellFormed.{kind_in, well_formed}
 use Rattle.mm_c_placed.specs.declared.tree.Local.{Local}
-use Rattle.mm_c_placed.specs.Ready.{IsInOperand, IsInIndex, IsInRight, IsInTarget, IsInResult, IsInStmt, IsIn, IsReadyFunction, IsReady}
+use Rattle.mm_c_placed.specs.Ready.{IsInOperand, IsInIndex, IsInResult, IsInStmt, IsIn, IsReadyFunction, IsReady}
 use Rattle.mm_c_places.specs.Locals.{all_locals}
 use Rattle.mm_c_places.specs.Places.{place_of, places, numbers}
-use Rattle.mm_c_places.specs.Placed.{operand, operands, address, index, own_local, local_of, target, call, assigned, with_locals, placed_stmt, placed_block, placed_code, placed_function, placed_functions, placed}
+use Rattle.mm_c_places.specs.Placed.{operand, operands, index, own_local, local_of, call, assigned, placed_stmt, placed_block, placed_code, placed_function, placed_functions, placed}
 use Rattle.mm_c_places.specs.Seen.{Sees, Agree, SeesAtom, SeesAtoms, SeesIndex, SeesCall, SeesRight, SeesStmt, SeesBlock, SeesCode, SeesFunction, SeesItems}
 use Rattle.mm_c_places.proofs.Nears.{bytes_is, sees-cons, sees-append}
-use Rattle.mm_c_places.proofs.Seen.{agree_left, agree_right}
 use Rattle.mm_c_places.proofs.Whole.{well_formed_sees}
 
 place_within : (all : List CLocal) (x : List ℕ) → Sees all x → place_of all x < length all

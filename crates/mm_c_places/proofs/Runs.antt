@@ -3,23 +3,22 @@ use Rattle.std.specs.Prelude.{Bool, true, false, ℤ, pos, negsuc, Option, Some,
 use Rattle.std.specs.Option.{option_map}
 use Rattle.std.specs.Str.{bytes_eq}
 use Rattle.std.proofs.Common.{◌≡◌, ℕ, zero, suc, List, [], ◌∷◌, map, refl, sym, ap, ◌∙◌}
-use Rattle.mm_meaning.specs.Run.{Run, Gives, Stops, step}
+use Rattle.mm_meaning.specs.Run.{Run}
 use Rattle.mm_c.specs.declared.value.CValue.{CValue}
 use Rattle.mm_c.specs.declared.tree.CKind.{CKind}
 use Rattle.mm_c.specs.declared.tree.CLocal.{CLocal}
 use Rattle.mm_c.specs.declared.tree.CElement.{CElement}
 use Rattle.mm_c.specs.declared.tree.CElement.TheVariants as element_is
 use Rattle.mm_c.specs.Tree.{Function, Item, typedef, array, proto, function, Program}
-use Rattle.mm_c.specs.WellFormed.{is_inline, kinds_of}
+use Rattle.mm_c.specs.WellFormed.{is_inline}
 use Rattle.mm_c.specs.CMeaning.{Stop, Spent, State, Names, From, stuck, Flow, Given, asks, traps, allocates, given_call, prelude_callees, Callee, prelude, defined, no_names}
 use Rattle.mm_c.specs.CMeaning as n
-use Rattle.mm_c_placed.specs.declared.tree.Element as p_element
 use Rattle.mm_c_placed.specs.Tree as t
 use Rattle.mm_c_placed.specs.Meaning as c
 use Rattle.mm_c_places.specs.Locals.{all_locals}
 use Rattle.mm_c_places.specs.Places.{function_number, array_number, given_callee, callee_among, callee_at, numbers}
 use Rattle.mm_c_places.specs.Placed.{placed_function, placed_element, placed_functions, placed_arrays, placed}
-use Rattle.mm_c_places.specs.Seen.{SeesFunction, SeesElement, SeesElements, SeesItems}
+use Rattle.mm_c_places.specs.Seen.{SeesFunction, SeesElements, SeesItems}
 use Rattle.mm_c_places.specs.Does.{Alike, both_give, both_stop, SameAround}
 use Rattle.mm_c_places.proofs.Nears.{Entered, neither_enters, both_enter, enters}
 use Rattle.mm_c_places.proofs.Do.{block_does, opposite_same, long_same}

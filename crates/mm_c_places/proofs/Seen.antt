@@ -1,7 +1,7 @@
 -- In code that breaks no rule, each name of a local that is used is seen where it is used.
 use Rattle.std.specs.Prelude.{Bool, true, false, not, ◌&&◌, ◌||◌, ◌==◌, Option, Some, None, is_some, ◌^◌, nat_lt, if◌then◌else◌}
 use Rattle.std.specs.List.{list_any}
-use Rattle.std.proofs.Common.{◌≡◌, ℕ, List, [], ◌∷◌, ◌++◌, refl, sym, ap, ◌∙◌, arith}
+use Rattle.std.proofs.Common.{◌≡◌, ℕ, List, [], ◌∷◌, ◌++◌, refl, ap, arith}
 use Rattle.mm_c.specs.declared.value.CCell.{CCell}
 use Rattle.mm_c.specs.declared.value.CCell.TheVariants as cell
 use Rattle.mm_c.specs.declared.tree.CKind.{CKind}
@@ -20,7 +20,7 @@ use Rattle.mm_c.specs.declared.tree.CExpr.TheVariants.{Atom, Binary, ToInt, ToUn
 use Rattle.mm_c.specs.declared.tree.CLocal.{CLocal}
 use Rattle.mm_c.specs.Tree.{Stmt, assign, store, run, if_only, if_else, forever, break, continue, leave, return, Block, block, Code, done, do_then}
 use Rattle.mm_c.specs.Tokens.{is_number}
-use Rattle.mm_c.specs.WellFormed.{Here, same_kind, Entry, functions_type, numbers_array, functions_array, callable, entry_in, is_true, kind_in, kind_number, result_number, is_of, fits, all_fit, number_fits, is_offset, address_fits, is_index, index_fits, both_fit, binary_fits, is_arithmetic, is_equality, is_add, is_name_atom, one_is_name, callable_fits, element_fits, call_fits, right_fits, assign_fits, stored_fits, is_tag, returned_fits, stmt_fits, stmt_breaks, block_breaks, code_breaks, locals_of, code_locals, stmt_locals, seeing}
+use Rattle.mm_c.specs.WellFormed.{Here, same_kind, Entry, functions_type, numbers_array, functions_array, callable, entry_in, is_true, kind_in, kind_number, result_number, is_of, fits, all_fit, number_fits, is_offset, address_fits, is_index, index_fits, both_fit, binary_fits, is_arithmetic, is_equality, is_add, is_name_atom, one_is_name, callable_fits, element_fits, call_fits, right_fits, assign_fits, stored_fits, is_tag, returned_fits, stmt_breaks, block_breaks, code_breaks, locals_of, code_locals, stmt_locals, seeing}
 use Rattle.mm_c.proofs.Bools.{and_left, and_right}
 use Rattle.mm_c.proofs.Fits.{none_left, none_right}
 use Rattle.mm_c_places.specs.Seen.{Sees, Agree, SeesAtom, SeesAtoms, SeesIndex, SeesCall, SeesRight, SeesStmt, SeesBlock, SeesCode}
@@ -98,9 +98,10 @@ module _ (h : Here) where
       (λ f. both_see kind.Pointer a b (and_right (is_equality o && one_is_name a b) (both_fit h kind.Pointer a b) f)) e
   binary_sees kind.Unsigned a o b e = both_see kind.Unsigned a b (and_right (is_arithmetic o) (both_fit h kind.Unsigned a b) e)
   binary_sees kind.Long a o b e = both_see kind.Long a b (and_right (is_add o && one_is_name a b) (both_fit h kind.Long a b) e)
-  binary_sees kind.Pointer a o b e =
-      (atom_sees kind.Pointer a (and_right (is_add o && is_name_atom a) (fits h kind.Pointer a) (and_left (is_add o && is_name_atom a && fits h kind.Pointer a) (is_offset h b) e)),
-       offset_sees b (and_right (is_add o && is_name_atom a && fits h kind.Pointer a) (is_offset h b) e))
+  binary_sees kind.Pointer a o b e = (
+    atom_sees kind.Pointer a (and_right (is_add o && is_name_atom a) (fits h kind.Pointer a) (and_left (is_add o && is_name_atom a && fits h kind.Pointer a) (is_offset h b) e)),
+    offset_sees b (and_right (is_add o && is_name_atom a && fits h kind.Pointer a) (is_offset h b) e),
+  )
 
   -- ---- calls and right sides
 
@@ -120,9 +121,10 @@ module _ (h : Here) where
 
   call_sees : (c : CCall) → call_fits h c ≡ true → SeesCall h.scope c
   call_sees (Named f xs) e = callable_sees xs (entry_in h.table f) e
-  call_sees (Element a x xs) e =
-      (two_see kind.Int kind.Long x (and_right (not h.inside_inline) (is_index h x) (and_left (not h.inside_inline && is_index h x) (element_fits h xs (entry_in h.table a)) e)),
-       element_sees xs (entry_in h.table a) (and_right (not h.inside_inline && is_index h x) (element_fits h xs (entry_in h.table a)) e))
+  call_sees (Element a x xs) e = (
+    two_see kind.Int kind.Long x (and_right (not h.inside_inline) (is_index h x) (and_left (not h.inside_inline && is_index h x) (element_fits h xs (entry_in h.table a)) e)),
+    element_sees xs (entry_in h.table a) (and_right (not h.inside_inline && is_index h x) (element_fits h xs (entry_in h.table a)) e),
+  )
 
   right_sees : (k : CKind) (r : CExpr) → right_fits h k r ≡ true → SeesRight h.scope r
   right_sees k (Atom a) e = atom_sees k a e

@@ -1,19 +1,18 @@
 -- In a well-formed program each name is seen where it is used.
-use Rattle.std.specs.Prelude.{Bool, true, false, not, ◌&&◌, ◌||◌, Option, Some, None, is_some, nat_lt, ◌^◌, if◌then◌else◌}
+use Rattle.std.specs.Prelude.{Bool, true, false, not, ◌&&◌, ◌||◌, Option, Some, None, is_some, nat_lt, ◌^◌}
 use Rattle.std.specs.List.{list_any}
 use Rattle.std.specs.Str.{bytes_eq}
 use Rattle.std.proofs.Common.{◌≡◌, ℕ, List, [], ◌∷◌, ◌++◌, map, refl, sym, ap, ◌∙◌}
 use Rattle.mm_c.specs.declared.tree.CKind.{CKind}
 use Rattle.mm_c.specs.declared.tree.CLocal.{CLocal}
-use Rattle.mm_c.specs.declared.tree.CArray.{CArray}
 use Rattle.mm_c.specs.declared.tree.CElement.{CElement}
 use Rattle.mm_c.specs.declared.tree.CElement.TheVariants as element_is
 use Rattle.mm_c.specs.Tree.{Function, Item, typedef, array, proto, function, Program}
-use Rattle.mm_c.specs.WellFormed.{Here, Table, Entry, functions_type, numbers_array, functions_array, callable, entry_in, with_item, prelude, is_true, kind_in, is_inline, is_name, is_in, locals_fit, locals_of, is_long, is_function_in, list_every, functions_fit, elements_fit, array_fits, function_fits, item_fits, inner_breaks, items_break, block_breaks, globals_of, breaks, has_main, well_formed}
+use Rattle.mm_c.specs.WellFormed.{Table, Entry, functions_type, numbers_array, functions_array, callable, entry_in, with_item, prelude, is_true, kind_in, is_inline, is_name, is_in, locals_fit, locals_of, is_long, is_function_in, list_every, functions_fit, elements_fit, function_fits, item_fits, inner_breaks, items_break, globals_of, breaks, has_main, well_formed}
 use Rattle.mm_c.proofs.Bools.{and_left, and_right}
 use Rattle.mm_c.proofs.Fits.{none_left, none_right}
 use Rattle.mm_c_places.specs.Locals.{all_locals}
-use Rattle.mm_c_places.specs.Seen.{Sees, Agree, Differ, SeesFunction, SeesElement, SeesElements, SeesItems}
+use Rattle.mm_c_places.specs.Seen.{Agree, Differ, SeesFunction, SeesElements, SeesItems}
 use Rattle.mm_c_places.proofs.Nears.{bytes_refl, bytes_sym, bytes_is, sees-cons, sees-append}
 use Rattle.mm_c_places.proofs.Seen.{block_sees, agree_left, agree_right, fine, after}
 
@@ -41,9 +40,10 @@ unseen (l ∷ ls) x e = sees-cons l ls x ∙ go (bytes_eq x l.name) (bytes_eq l.
 
 differ_fit : (globals : List (List ℕ)) (ls : List CLocal) → locals_fit globals ls ≡ true → Differ ls
 differ_fit globals [] e = tt
-differ_fit globals (l ∷ ls) e =
-    (unseen ls l.name (not_true (is_in (names_of ls) l.name) (and_right (is_name l.name && not (is_in globals l.name)) (not (is_in (names_of ls) l.name)) (and_left (is_name l.name && not (is_in globals l.name) && not (is_in (names_of ls) l.name)) (locals_fit globals ls) e))),
-     differ_fit globals ls (and_right (is_name l.name && not (is_in globals l.name) && not (is_in (names_of ls) l.name)) (locals_fit globals ls) e))
+differ_fit globals (l ∷ ls) e = (
+  unseen ls l.name (not_true (is_in (names_of ls) l.name) (and_right (is_name l.name && not (is_in globals l.name)) (not (is_in (names_of ls) l.name)) (and_left (is_name l.name && not (is_in globals l.name) && not (is_in (names_of ls) l.name)) (locals_fit globals ls) e))),
+  differ_fit globals ls (and_right (is_name l.name && not (is_in globals l.name) && not (is_in (names_of ls) l.name)) (locals_fit globals ls) e),
+)
 
 differ_left : (xs ys : List CLocal) → Differ (xs ++ ys) → Differ xs
 differ_left [] ys d = tt
@@ -110,14 +110,16 @@ items_see : (table : Table) (globals : List (List ℕ)) (items : List Item) → 
 items_see table globals [] e = tt
 items_see table globals (typedef d ∷ more) e = items_see (with_item table (typedef d)) globals more (after (item_fits table globals more (typedef d)) (items_break (with_item table (typedef d)) globals more) e)
 items_see table globals (proto p ∷ more) e = items_see (with_item table (proto p)) globals more (after (item_fits table globals more (proto p)) (items_break (with_item table (proto p)) globals more) e)
-items_see table globals (array a ∷ more) e =
-    (elements_see table a.functions a.elements (and_right _ (elements_fit table a.functions a.elements) (fine (item_fits table globals more (array a)) (items_break (with_item table (array a)) globals more) e)),
-     items_see (with_item table (array a)) globals more (after (item_fits table globals more (array a)) (items_break (with_item table (array a)) globals more) e))
+items_see table globals (array a ∷ more) e = (
+  elements_see table a.functions a.elements (and_right _ (elements_fit table a.functions a.elements) (fine (item_fits table globals more (array a)) (items_break (with_item table (array a)) globals more) e)),
+  items_see (with_item table (array a)) globals more (after (item_fits table globals more (array a)) (items_break (with_item table (array a)) globals more) e),
+)
 items_see table globals (function f ∷ more) e =
     let behind = with_item table (function f) in
-    let g = after (item_fits table globals more (function f)) (inner_breaks behind (function f) ++ items_break behind globals more) e in
-    (function_sees table behind globals f (fine (item_fits table globals more (function f)) (inner_breaks behind (function f) ++ items_break behind globals more) e) (none_left (inner_breaks behind (function f)) (items_break behind globals more) g),
-     items_see behind globals more (none_right (inner_breaks behind (function f)) (items_break behind globals more) g))
+    let g = after (item_fits table globals more (function f)) (inner_breaks behind (function f) ++ items_break behind globals more) e in (
+      function_sees table behind globals f (fine (item_fits table globals more (function f)) (inner_breaks behind (function f) ++ items_break behind globals more) e) (none_left (inner_breaks behind (function f)) (items_break behind globals more) g),
+      items_see behind globals more (none_right (inner_breaks behind (function f)) (items_break behind globals more) g),
+    )
 
 pub well_formed_sees : (p : Program) → well_formed p ≡ true → SeesItems p.items
 well_formed_sees p e = items_see prelude (globals_of p) p.items (not_true (list_any is_true (breaks p)) (and_left (not (list_any is_true (breaks p))) (has_main p) e))

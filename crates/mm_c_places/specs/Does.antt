@@ -1,5 +1,5 @@
 -- When a run of a function's statements with names, and one with places, do the same. (Own.)
-use Rattle.std.specs.Prelude.{◌≡◌, ℕ, ℤ, List, Option}
+use Rattle.std.specs.Prelude.{◌≡◌, ℕ, ℤ, List}
 use Rattle.std.specs.Option.{option_map}
 use Rattle.mm_meaning.specs.Run.{Run, Gives, Stops}
 use Rattle.mm_c.specs.declared.value.CValue.{CValue}

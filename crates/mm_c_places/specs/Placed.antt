@@ -1,5 +1,5 @@
 -- The program in which numbers stand for the names of a program. (Own.)
-use Rattle.std.specs.Prelude.{ℕ, ◌-◌, ◌%◌, ◌^◌, ℤ, pos, negsuc, List, [], ◌∷◌, length, map, Option, Some, None, codes, if◌then◌else◌}
+use Rattle.std.specs.Prelude.{ℕ, ◌-◌, ◌%◌, ◌^◌, ℤ, negsuc, List, [], ◌∷◌, length, map, Option, Some, None, codes, if◌then◌else◌}
 use Rattle.mm_base.specs.Num.{to_int}
 use Rattle.mm_c.specs.declared.value.CValue.{CValue}
 use Rattle.mm_c.specs.declared.value.CValue.TheVariants.{Int, Unsigned}
@@ -24,7 +24,6 @@ use Rattle.mm_c_placed.specs.declared.tree.Operand.TheVariants.{Place, Value}
 use Rattle.mm_c_placed.specs.declared.tree.Address.{Address}
 use Rattle.mm_c_placed.specs.declared.tree.Index as p_index
 use Rattle.mm_c_placed.specs.declared.tree.Index.TheVariants as p_index_is
-use Rattle.mm_c_placed.specs.declared.tree.Right.{Right}
 use Rattle.mm_c_placed.specs.declared.tree.Right.TheVariants as right_is
 use Rattle.mm_c_placed.specs.declared.tree.Target.{Target}
 use Rattle.mm_c_placed.specs.declared.tree.Target.TheVariants as target_is
