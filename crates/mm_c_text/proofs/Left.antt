@@ -71,11 +71,14 @@ pub eats_none_end : (cs : List ℕ) (ts : List Token) → ts ≡ [] → Eats cs 
 eats_none_end cs ts e = (refl, λ k r h i. let n = sym e ∙ h in absurd (cc))
 
 pub eats_none_other : (cs : List ℕ) (text : List ℕ) (here after : tokens.Place) (rest : List ℕ) → 0 < length text → has (class_at text) cs ≡ false → Eats cs (left_of text here after rest) None (left_of text here after rest)
-eats_none_other cs text here after rest l h = (refl, λ k r e i.
-    let same : record { text = text; place = here } ∷ tokens_from after rest ≡ k ∷ r = sym (left_some text here after rest l) ∙ e in
-    let head : k.text ≡ text = ap (λ x. x.text) (first_is same) in
-    let c = ap (λ x. has (class_in classes x) cs) head ∙ (ap (λ x. has x cs) (sym (class_some text l)) ∙ h) in
-    absurd (let j = i in cc))
+eats_none_other cs text here after rest l h = (
+  refl,
+  λ k r e i.
+      let same : record { text = text; place = here } ∷ tokens_from after rest ≡ k ∷ r = sym (left_some text here after rest l) ∙ e in
+      let head : k.text ≡ text = ap (λ x. x.text) (first_is same) in
+      let c = ap (λ x. has (class_in classes x) cs) head ∙ (ap (λ x. has x cs) (sym (class_some text l)) ∙ h) in
+      absurd (let j = i in cc),
+)
   where
     first_is : {x y : Token} {xs ys : List Token} → x ∷ xs ≡ y ∷ ys → y ≡ x
     first_is e = cc
@@ -83,10 +86,10 @@ eats_none_other cs text here after rest l h = (refl, λ k r e i.
 pub eats_some : (cs : List ℕ) (x : Lexeme) (here after : tokens.Place) (rest : List ℕ) → here ≡ (token_of x).place → 0 < length x.text.now → number_of x.class ≡ class_at x.text.now → has (number_of x.class) cs ≡ true →
     Eats cs (left_of x.text.now here after rest) (Some x) (tokens_from after rest)
 eats_some cs x here after rest e l k h = (
-    left_some x.text.now here after rest l ∙ ap (λ p. record { text = x.text.now; place = p } ∷ tokens_from after rest) e,
-    ap (λ c. has c cs) (sym (k ∙ class_some x.text.now l)) ∙ h,
-    k ∙ class_some x.text.now l,
-  )
+  left_some x.text.now here after rest l ∙ ap (λ p. record { text = x.text.now; place = p } ∷ tokens_from after rest) e,
+  ap (λ c. has c cs) (sym (k ∙ class_some x.text.now l)) ∙ h,
+  k ∙ class_some x.text.now l,
+)
 
 -- what is left of bytes behind the first of them
 pub rest_is : (bytes : List ℕ) (n : ℕ) → take (length bytes - n) (drop n bytes) ≡ drop n bytes

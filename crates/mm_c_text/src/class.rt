@@ -231,52 +231,190 @@ pub fn classify(text: &[u8]) -> Class
 {
     look(
         &[
-            Entry { text: b"(", class: Class::Open },
-            Entry { text: b")", class: Class::Close },
-            Entry { text: b"{", class: Class::OpenBrace },
-            Entry { text: b"}", class: Class::CloseBrace },
-            Entry { text: b"[", class: Class::OpenBracket },
-            Entry { text: b"]", class: Class::CloseBracket },
-            Entry { text: b";", class: Class::Semicolon },
-            Entry { text: b",", class: Class::Comma },
-            Entry { text: b"=", class: Class::Assign },
-            Entry { text: b"*", class: Class::Star },
-            Entry { text: b"+", class: Class::Plus },
-            Entry { text: b"-", class: Class::Minus },
-            Entry { text: b"/", class: Class::Slash },
-            Entry { text: b"%", class: Class::Percent },
-            Entry { text: b"<", class: Class::Less },
-            Entry { text: b">", class: Class::Greater },
-            Entry { text: b"<=", class: Class::LessEqual },
-            Entry { text: b">=", class: Class::GreaterEqual },
-            Entry { text: b"==", class: Class::EqualEqual },
-            Entry { text: b"!=", class: Class::NotEqual },
-            Entry { text: b"typedef", class: Class::Typedef },
-            Entry { text: b"static", class: Class::Static },
-            Entry { text: b"const", class: Class::Const },
-            Entry { text: b"inline", class: Class::Inline },
-            Entry { text: b"void", class: Class::Void },
-            Entry { text: b"int", class: Class::Int },
-            Entry { text: b"unsigned", class: Class::Unsigned },
-            Entry { text: b"long", class: Class::Long },
-            Entry { text: b"char", class: Class::Char },
-            Entry { text: b"short", class: Class::Short },
-            Entry { text: b"if", class: Class::If },
-            Entry { text: b"else", class: Class::Else },
-            Entry { text: b"while", class: Class::While },
-            Entry { text: b"break", class: Class::Break },
-            Entry { text: b"continue", class: Class::Continue },
-            Entry { text: b"return", class: Class::Return },
-            Entry { text: b"extern", class: Class::Extern },
-            Entry { text: b"mm_put", class: Class::Put },
-            Entry { text: b"mm_get", class: Class::Get },
-            Entry { text: b"mm_more", class: Class::More },
-            Entry { text: b"mm_trap", class: Class::Trap },
-            Entry { text: b"mm_new", class: Class::New },
-            Entry { text: b"0", class: Class::Zero },
-            Entry { text: b"0u", class: Class::ZeroUnsigned },
-            Entry { text: b"1", class: Class::One },
-            Entry { text: b"2147483647", class: Class::Largest },
+            Entry {
+                text: b"(",
+                class: Class::Open,
+            },
+            Entry {
+                text: b")",
+                class: Class::Close,
+            },
+            Entry {
+                text: b"{",
+                class: Class::OpenBrace,
+            },
+            Entry {
+                text: b"}",
+                class: Class::CloseBrace,
+            },
+            Entry {
+                text: b"[",
+                class: Class::OpenBracket,
+            },
+            Entry {
+                text: b"]",
+                class: Class::CloseBracket,
+            },
+            Entry {
+                text: b";",
+                class: Class::Semicolon,
+            },
+            Entry {
+                text: b",",
+                class: Class::Comma,
+            },
+            Entry {
+                text: b"=",
+                class: Class::Assign,
+            },
+            Entry {
+                text: b"*",
+                class: Class::Star,
+            },
+            Entry {
+                text: b"+",
+                class: Class::Plus,
+            },
+            Entry {
+                text: b"-",
+                class: Class::Minus,
+            },
+            Entry {
+                text: b"/",
+                class: Class::Slash,
+            },
+            Entry {
+                text: b"%",
+                class: Class::Percent,
+            },
+            Entry {
+                text: b"<",
+                class: Class::Less,
+            },
+            Entry {
+                text: b">",
+                class: Class::Greater,
+            },
+            Entry {
+                text: b"<=",
+                class: Class::LessEqual,
+            },
+            Entry {
+                text: b">=",
+                class: Class::GreaterEqual,
+            },
+            Entry {
+                text: b"==",
+                class: Class::EqualEqual,
+            },
+            Entry {
+                text: b"!=",
+                class: Class::NotEqual,
+            },
+            Entry {
+                text: b"typedef",
+                class: Class::Typedef,
+            },
+            Entry {
+                text: b"static",
+                class: Class::Static,
+            },
+            Entry {
+                text: b"const",
+                class: Class::Const,
+            },
+            Entry {
+                text: b"inline",
+                class: Class::Inline,
+            },
+            Entry {
+                text: b"void",
+                class: Class::Void,
+            },
+            Entry {
+                text: b"int",
+                class: Class::Int,
+            },
+            Entry {
+                text: b"unsigned",
+                class: Class::Unsigned,
+            },
+            Entry {
+                text: b"long",
+                class: Class::Long,
+            },
+            Entry {
+                text: b"char",
+                class: Class::Char,
+            },
+            Entry {
+                text: b"short",
+                class: Class::Short,
+            },
+            Entry {
+                text: b"if",
+                class: Class::If,
+            },
+            Entry {
+                text: b"else",
+                class: Class::Else,
+            },
+            Entry {
+                text: b"while",
+                class: Class::While,
+            },
+            Entry {
+                text: b"break",
+                class: Class::Break,
+            },
+            Entry {
+                text: b"continue",
+                class: Class::Continue,
+            },
+            Entry {
+                text: b"return",
+                class: Class::Return,
+            },
+            Entry {
+                text: b"extern",
+                class: Class::Extern,
+            },
+            Entry {
+                text: b"mm_put",
+                class: Class::Put,
+            },
+            Entry {
+                text: b"mm_get",
+                class: Class::Get,
+            },
+            Entry {
+                text: b"mm_more",
+                class: Class::More,
+            },
+            Entry {
+                text: b"mm_trap",
+                class: Class::Trap,
+            },
+            Entry {
+                text: b"mm_new",
+                class: Class::New,
+            },
+            Entry {
+                text: b"0",
+                class: Class::Zero,
+            },
+            Entry {
+                text: b"0u",
+                class: Class::ZeroUnsigned,
+            },
+            Entry {
+                text: b"1",
+                class: Class::One,
+            },
+            Entry {
+                text: b"2147483647",
+                class: Class::Largest,
+            },
         ],
         text,
     )
