@@ -17,6 +17,7 @@ ghost use Rattle.mm_lower.specs.Written.{IsWritable};
 use crate::callee::name_of;
 use crate::head::{argument_types, is_main, kind_of_result, local_types, locals_from, variables};
 use crate::name::plain;
+use crate::node::zero_of;
 use crate::scope::Scope;
 use crate::stmt::lower_stmt;
 use crate::temporary::note_code;
@@ -37,7 +38,8 @@ fn end(alloc: Global, code: &mut Items<CStmt>, function: &CoreFn) -> Result<(), 
             if is_main(function) {
                 code.push(CStmt::ReturnValue(plain(0)))
             } else {
-                trap(alloc, code, 5)
+                trap(alloc, code, 5)?;
+                code.push(CStmt::ReturnValue(zero_of(&function.result)))
             }
         }
     }

@@ -166,8 +166,8 @@ pub fn convert(
     Ok(type_of_target(target))
 }
 
-// The zero of a type's kind.
-fn zero_of(ty: &Ty) -> CAtom
+/// The zero of a type, or null, as an operand.
+pub fn zero_of(ty: &Ty) -> CAtom
     ensures { result ≡ lowered.zero_atom ty.now }
 {
     match ty {
