@@ -1,6 +1,6 @@
 //! Which program a C text spells, or where it is refused.
 #![tactic(auto)]
 
-mod operand;
-mod right;
-mod step;
+pub mod operand;
+pub mod right;
+pub mod step;
