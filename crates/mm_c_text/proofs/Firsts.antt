@@ -3,7 +3,7 @@ use Rattle.std.specs.Prelude.{Bool, true, false, not, ◌&&◌, ◌||◌, ◌==�
 use Rattle.std.specs.List.{list_all, prefix_len}
 use Rattle.std.proofs.Common.{◌≡◌, ℕ, suc, ◌<◌, ◌+◌, List, [], ◌∷◌, ◌++◌, length, get_or, take, drop, refl, sym, ap, ◌∙◌, arith, subst, append-nil}
 use Rattle.mm_grammar.proofs.Lists.{same}
-use Rattle.mm_c.specs.Tokens.{Place, Token, is_white, is_word_byte, takes_equals, joins, cut, tokens_from, end_from}
+use Rattle.mm_c.specs.Tokens.{Place, is_white, is_word_byte, takes_equals, joins, cut, tokens_from, end_from}
 use Rattle.mm_c.specs.Lexing.{joins_on, is_token}
 use Rattle.mm_c.proofs.Lexing.{token_step, token_end}
 use Rattle.mm_c_text.specs.Scan.{Dark, Ends, IsFirst}

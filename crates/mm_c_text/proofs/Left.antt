@@ -1,15 +1,14 @@
 -- What a cursor stands before.
-use Rattle.std.specs.Prelude.{Bool, true, false}
-use Rattle.std.proofs.Common.{◌≡◌, ℕ, suc, zero, ◌<◌, ◌≤◌, ◌-◌, List, [], ◌∷◌, ◌++◌, IsTrue, ◌+◌, length, get_or, take, drop, refl, sym, ap, ◌∙◌, arith, subst, Option, Some, None}
+use Rattle.std.specs.Prelude.{true, false}
+use Rattle.std.proofs.Common.{◌≡◌, ℕ, suc, zero, ◌<◌, ◌≤◌, ◌-◌, List, [], ◌∷◌, ◌+◌, length, get_or, take, drop, refl, sym, ap, ◌∙◌, arith, subst, Some, None}
 use Rattle.std.proofs.lemmas.List.{take-append-drop, take_all, length-drop}
-use Rattle.mm_grammar.specs.Grammar.{has, Avoids}
+use Rattle.mm_grammar.specs.Grammar.{has}
 use Rattle.mm_c.specs.Tokens.{Token, is_white, classes, class_in, class_of, past, cut, in_front, tokens_from, end_from}
 use Rattle.mm_c.specs.Tokens as tokens
-use Rattle.mm_c.specs.Grammar.{texts}
 use Rattle.mm_c.proofs.Lexing as lexing
-use Rattle.mm_c_text.specs.Scan.{Dark, IsFirst}
+use Rattle.mm_c_text.specs.Scan.{Dark}
 use Rattle.mm_c_text.specs.Classes.{number_of}
-use Rattle.mm_c_text.specs.Cursor.{class_at, left_of, IsNext, IsAt, Eats, token_of}
+use Rattle.mm_c_text.specs.Cursor.{class_at, left_of, IsNext, Eats, token_of}
 use Rattle.mm_c_text.specs.declared.cursor.Lexeme.{Lexeme}
 use Rattle.mm_c_text.proofs.Firsts.{first_token}
 

@@ -1,6 +1,6 @@
-use Rattle.std.proofs.Common.{◌≡◌, ◌-◌, ◌∙◌, sym, ap, take, drop, length, subst}
-use Rattle.mm_c_text.specs.Places.{at, Fits}
-use Rattle.mm_c_text.specs.Cursor.{IsAt, left_of}
+use Rattle.std.proofs.Common.{◌∙◌, ap, take, drop}
+use Rattle.mm_c_text.specs.Places.{at}
+use Rattle.mm_c_text.specs.Cursor.{left_of}
 use Rattle.mm_c_text.proofs.Left.{left_is, ended_is, rest_is}
 use Rattle.mm_c_text.proofs.cursor.before.Goals as goal
 

@@ -1,5 +1,4 @@
-use Rattle.std.proofs.Common.{◌≡◌, ◌≤◌, ◌∙◌, sym, subst, length, take, drop}
-use Rattle.std.specs.List.{prefix_len}
+use Rattle.std.proofs.Common.{◌≤◌, ◌∙◌, sym, subst, length, take, drop}
 use Rattle.std.proofs.lemmas.List.Sums.{prefix_len-le-length}
 use Rattle.mm_c.specs.Tokens.{is_word_byte}
 use Rattle.mm_c_text.specs.Scan.{IsFirst}

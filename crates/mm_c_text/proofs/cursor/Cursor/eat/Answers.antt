@@ -1,4 +1,4 @@
-use Rattle.std.proofs.Common.{◌≡◌, ◌∷◌, ◌∙◌, sym, ap, arith, subst, map, None, refl}
+use Rattle.std.proofs.Common.{◌∷◌, ◌∙◌, sym, ap, arith, subst, map, None, refl}
 use Rattle.std.proofs.lemmas.Bool.Decides.{nat_tests}
 use Rattle.mm_grammar.specs.Grammar.{has}
 use Rattle.mm_c_text.specs.Classes.{number_of}
