@@ -1,2 +1,4 @@
 pub mod Offsets
 pub mod Virtual
+pub mod Lending
+pub mod Sharing
