@@ -12,8 +12,8 @@ use Rattle.mm_virtual.specs.declared.end.MemberRef.{MemberRef}
 use Rattle.mm_virtual.specs.declared.end.FinalEnd.{FinalEnd}
 use Rattle.mm_virtual.specs.declared.end.FinalEnd.TheVariants as end
 use Rattle.mm_virtual.specs.Overriders.{IsVirtualAt, HasNoFinal}
-use Rattle.mm_virtual.specs.Finals.{Line, no_line, Tells, Gives, IsFinalRef, AreFinals, IsNotAfter}
-use Rattle.mm_virtual.specs.Kept.{Rises, IsRow, AreRows, IsLineOf, Lacks, LacksIn, LacksFirst, longer}
+use Rattle.mm_virtual.specs.Finals.{Line, no_line, Tells, Gives, IsFinalRef, AreFinals, IsNotAfter, KeepsResults, Ends}
+use Rattle.mm_virtual.specs.Kept.{Rises, IsRow, AreRows, IsLineOf, Lacks, LacksIn, LacksFirst, IsLookedUp, longer, with_found}
 
 -- ---- lists with one more element
 
@@ -131,6 +131,11 @@ module _ (g : List Class) (d n : ℕ) where
         ]
       ]
 
+  pub line_with : (k : ℕ) (l : Line) (m : Member) (o : Option (ℕ × MemberRef)) → IsLineOf g d n k l → slice_get (members_of g (end_of (node g d n))) k ≡ Some m
+      → IsLookedUp g d n m o → IsLineOf g d n (k + 1) (with_found l k o)
+  line_with k l m None h at u = line_skip k l m h at u
+  line_with k l m (Some r) h at u = line_push k l m r h at u.1
+
   -- the first member without an only final overrider
   pub lacks_in : (k : ℕ) (l : Line) (m : Member) (e : FinalEnd) → IsNode g d n → IsLineOf g d n k l → slice_get (members_of g (end_of (node g d n))) k ≡ Some m
       → Lacks g d n m e → LacksIn g d n e
@@ -197,3 +202,9 @@ lacks_first g d n ls (end.Several name place) h (k, m, v, none, before, en, ep) 
           let s = line.some j x (get_low (members_of g (end_of (node g d i))) j x w.1) w in
           absurd (lack s.0.0 (line.each j x s.0 w s.1).0))
     ]
+
+-- after the rule on results
+pub ends_of : (g : List Class) (c : ℕ) (e : FinalEnd) → KeepsResults g c → LacksFirst g c e → Ends g c e
+ends_of g c (end.Several name place) keeps lack = (keeps, lack)
+ends_of g c (end.Result place) keeps lack = absurd lack
+ends_of g c end.NoMemory keeps lack = tt

@@ -1,6 +1,6 @@
 -- The same function among members.
 use Rattle.std.proofs.Common.{◌≡◌, ◌≢◌, ℕ, zero, suc, ◌+◌, ◌-◌, ◌<◌, ◌≤◌, List, [], ◌∷◌, length, get_or, refl, sym, subst, ap, ap₂, ◌∙◌, inl, inr, arith, Option, Some, None}
-use Rattle.std.specs.Prelude.{Bool, true, false, ◌⊎◌, slice_get, MatchOption, AllPairs}
+use Rattle.std.specs.Prelude.{Bool, true, false, ◌⊎◌, slice_get, MatchOption, is_some}
 use Rattle.std.specs.Bool.{Decides}
 use Rattle.std.specs.Str.{bytes_eq}
 use Rattle.std.proofs.lemmas.Slice.Eq.{bytes_eq-Decides}
@@ -214,3 +214,8 @@ no_member_more P ms k y ey never before j x l e p = elim (same_or_low j k l) [
   | inl a ↦ before j x a e p
   | inr s ↦ never (subst P (some_same x y (sym e ∙ (ap (slice_get ms) s ∙ ey))) p)
 ]
+
+-- the test of whether a search found one
+pub declares_tells : (ms : List Member) (m : Member) (o : Option ℕ) → MatchOption o (DeclaresSame ms m → ⊥) (λ k. IsSameAt ms m k) → Decides (is_some o) (DeclaresSame ms m)
+declares_tells ms m None h = ((λ e. cc), λ d. absurd (h d))
+declares_tells ms m (Some k) (x, e, s) = ((λ t. (x, (place_at ms k x e).1, s)), λ d. refl)

@@ -90,3 +90,8 @@ LacksFirst g d end.NoMemory = Unit {0}
 -- a line with one more member
 abbrev pub longer : Line → ℕ → ℕ × MemberRef → Line
 longer l k r = record { members = l.members ++ k ∷ []; finals = l.finals ++ r ∷ [] }
+
+-- the same, if there is one
+abbrev pub with_found : Line → ℕ → Option (ℕ × MemberRef) → Line
+with_found l k None = l
+with_found l k (Some r) = longer l k r

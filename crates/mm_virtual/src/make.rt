@@ -7,7 +7,7 @@ ghost use Rattle.mm_classes.specs.Questions.{node as node_at, IsNode};
 ghost use Rattle.mm_classes.specs.Subobjects.{end_of};
 ghost use Rattle.mm_virtual.specs.Overriders.{IsVirtualAt, HasNoFinal};
 ghost use Rattle.mm_virtual.specs.Finals.{IsFinalRef, KeepsResults, AreFinals, Ends, IsFirstBroken};
-ghost use Rattle.mm_virtual.specs.Kept.{line_of, lines_of, longer, AreRows, AreAround, IsLineOf, IsLookedUp, IsSeveralOf, Lacks, LacksIn, LacksFirst};
+ghost use Rattle.mm_virtual.specs.Kept.{line_of, lines_of, with_found, AreRows, AreAround, IsLineOf, IsLookedUp, IsSeveralOf, Lacks, LacksIn, LacksFirst};
 
 use crate::end::{FinalEnd, MemberRef};
 use crate::finals::{Finals, Row};
@@ -54,12 +54,18 @@ fn look(
     }
 }
 
-// A row with one more member.
-fn push_final(row: &mut Row, k: u32, found: (NodeId, MemberRef)) -> Result<(), AllocError>
-    ensures { OnOk result (line_of row.new ≡ longer (line_of row.old) k found) }
+// A row with one more member, if it is virtual.
+fn add_found(
+    row: &mut Row,
+    k: u32,
+    found: Option<(NodeId, MemberRef)>,
+) -> Result<(), AllocError>
+    ensures { OnOk result (line_of row.new ≡ with_found (line_of row.old) k found) }
 {
-    row.members.push(k)?;
-    row.finals.push(found)?;
+    if let Some(found) = found {
+        row.members.push(k)?;
+        row.finals.push(found)?;
+    }
     Ok(())
 }
 
@@ -78,9 +84,8 @@ fn make_row(alloc: Global, graph: &Graph, d: ClassId, n: NodeId) -> Result<Row, 
     };
     let mut k = 0;
     while k < members.len() {
-        if let Some(found) = look(alloc, graph, d, n, around.as_slice(), &members[k])? {
-            push_final(&mut row, k as u32, found)?;
-        }
+        let found = look(alloc, graph, d, n, around.as_slice(), &members[k])?;
+        add_found(&mut row, k as u32, found)?;
         k += 1;
     }
     Ok(row)
@@ -125,5 +130,6 @@ pub fn get_finals(alloc: Global, graph: &Graph, c: ClassId) -> Result<Finals, Fi
     if let Some(k) = first_broken(graph, c) {
         return Err(FinalEnd::Result(graph.members(c)[k].place));
     }
-    Ok(Finals::of_rows(make_rows(alloc, graph, c)?))
+    let rows = make_rows(alloc, graph, c)?;
+    Ok(Finals::of_rows(rows))
 }

@@ -14,4 +14,8 @@ returns-then-not-contains_all c = several_final c.args.graph.now c.requires.vali
     (λ all. let z : false ≡ true = sym c.if-not-contains_all.true ∙ c.contains_all.ensures.1 all in cc)
 
 pub returns : goal.returns
-returns c = ?
+returns c = (
+  only_one c.args.graph.now c.requires.valid c.args.d c.args.n c.args.m.now c.in_ok-best.best c.in_ok-best.ensures (c.contains_all.ensures.0 c.if-not-contains_all.false),
+  c.class_of-class.ensures.class,
+  c.in_ok-index.ensures,
+)
