@@ -4,3 +4,4 @@ pub mod Lending
 pub mod Sharing
 pub mod Numbering
 pub mod Owning
+pub mod Counting

@@ -141,6 +141,19 @@ impl Layout {
         }
     }
 
+    /// Whether a tag cell and a tag, or none, are told of so many subobjects of a class.
+    pub fn has_tags(&self, d: ClassId, count: u32) -> bool
+        ensures cells { IsTrue result → length (object_at self.now d).cells ≡ count }
+        ensures tags { IsTrue result → length (object_at self.now d).tags ≡ count }
+    {
+        match self.classes.get(d.number as usize) {
+            None => false,
+            Some(placed) => {
+                placed.cells.len() == count as usize && placed.tags.len() == count as usize
+            }
+        }
+    }
+
     /// The bytes of an object of a class.
     pub fn size(&self, c: ClassId) -> u32
         requires { 0 < length (object_at self.now c).offsets }

@@ -2,6 +2,7 @@
 #![tactic(auto)]
 
 pub mod cells;
+pub mod few;
 pub mod layout;
 pub mod region;
 pub mod sorts;
