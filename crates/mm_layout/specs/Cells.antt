@@ -15,18 +15,20 @@ TellsTags g tagged = (c : ℕ) → c < length g → Decides (tagged c) (HasTag g
 abbrev pub tagged_at : List Class → (ℕ → Bool) → ℕ → ℕ → Bool
 tagged_at g tagged d n = tagged (end_of (node g d n))
 
--- the base whose tag cell a class shares: its first direct non-virtual base that has a tag, if there is one
+-- the base whose tag cell a class shares: its first direct non-virtual base that has a tag, if
+-- there is one
 abbrev pub lender : List Class → (ℕ → Bool) → ℕ → Option ℕ
 lender g tagged c = find tagged (plain_bases (bases_of g c))
 
--- The n-th subobject of d uses the tag cell of the h-th: that is itself, and owns a cell; or the subobject of its lender, in
--- it, uses that cell.
+-- The n-th subobject of d uses the tag cell of the h-th: that is itself, and owns a cell; or the
+-- subobject of its lender, in it, uses that cell.
 pub data UsesCell (g : List Class) (tagged : ℕ → Bool) (d : ℕ) : ℕ → ℕ → Type 0 where
   itself : {n h : ℕ} → n ≡ h → IsNode g d n → owns_cell g tagged (end_of (node g d n)) ≡ true → UsesCell g tagged d n h
   lent : {n h : ℕ} (m b : ℕ) → IsNode g d n → IsNode g d m → lender g tagged (end_of (node g d n)) ≡ Some b
       → node g d m ≡ node g d n ++ b ∷ [] → UsesCell g tagged d m h → UsesCell g tagged d n h
 
--- where in d the tag cell stands that its n-th subobject uses: at its owner's offset; none where it has no tag
+-- where in d the tag cell stands that its n-th subobject uses: at its owner's offset; none where it
+-- has no tag
 abbrev pub IsCell : List Class → (ℕ → Bool) → ℕ → ℕ → Option ℕ → Type 0
 IsCell g tagged d n None = tagged_at g tagged d n ≡ false
 IsCell g tagged d n (Some x) = (h : ℕ) × UsesCell g tagged d n h × (x ≡ offset_of g tagged d h)
@@ -44,8 +46,8 @@ abbrev pub tags_before : List Class → (ℕ → Bool) → ℕ → ℕ
 tags_before g tagged zero = 0
 tags_before g tagged (suc c) = tags_before g tagged c + cells_of g tagged c
 
--- The tag of the n-th subobject of d: the tags of the classes before d go first, then those of the cells of d before the
--- one that the subobject uses; none where it has no tag.
+-- The tag of the n-th subobject of d: the tags of the classes before d go first, then those of the
+-- cells of d before the one that the subobject uses; none where it has no tag.
 abbrev pub IsTag : List Class → (ℕ → Bool) → ℕ → ℕ → Option ℕ → Type 0
 IsTag g tagged d n None = tagged_at g tagged d n ≡ false
 IsTag g tagged d n (Some t) = (h : ℕ) × UsesCell g tagged d n h × (t ≡ tags_before g tagged d + cells_before g tagged d h)

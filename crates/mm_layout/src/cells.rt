@@ -36,7 +36,8 @@ fn used(sorts: &Sorts, c: ClassId, next: Option<u32>) -> Option<u32>
     None
 }
 
-/// For each subobject of a class the number of the one whose tag cell it uses: the first owner at or behind it.
+/// For each subobject of a class the number of the one whose tag cell it uses: the first owner at
+/// or behind it.
 pub fn owners(
     alloc: Global,
     graph: &Graph,

@@ -50,7 +50,8 @@ fn pairs_in(graph: &Graph, tags: &[bool], d: ClassId) -> u32
     pairs_of_complete(graph, tags, d)
 }
 
-/// Whether a graph has at most 65,535 pairs of a class and a subobject of it that has a tag, as a layout asks.
+/// Whether a graph has at most 65,535 pairs of a class and a subobject of it that has a tag, as a
+/// layout asks.
 pub fn has_few_tags(alloc: Global, graph: &Graph) -> Result<bool, AllocError>
     ensures { IfOk result (λ b. Decides b (HasFewTags graph.now)) }
 {

@@ -179,8 +179,8 @@ impl Layout {
         self.classes[c.number as usize].places[k as usize]
     }
 
-    /// Where in an object of `d` the tag cell stands that a subobject uses. Subobjects may share one. It is the subobject's
-    /// own offset and that of the cell in its class.
+    /// Where in an object of `d` the tag cell stands that a subobject uses. Subobjects may share
+    /// one. It is the subobject's own offset and that of the cell in its class.
     pub fn cell(&self, d: ClassId, n: NodeId) -> Option<u32>
         requires { n < length (object_at self.now d).cells }
         ensures { result ≡ get_or (object_at self.now d).cells n None }

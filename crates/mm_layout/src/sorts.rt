@@ -12,8 +12,8 @@ use mm_classes::id::ClassId;
 use mm_paths::graph::Graph;
 use std::alloc::{AllocError, Global};
 
-/// Of each class, by number: whether it has a tag, whether its subobjects own a cell for it, and the bytes of their
-/// regions. What stands at a class that is not complete means nothing.
+/// Of each class, by number: whether it has a tag, whether its subobjects own a cell for it, and
+/// the bytes of their regions. What stands at a class that is not complete means nothing.
 #[derive(Drop)]
 pub struct Sorts {
     pub tags: Vec<bool>,

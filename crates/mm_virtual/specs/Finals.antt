@@ -10,8 +10,8 @@ use Rattle.mm_virtual.specs.declared.end.FinalEnd.TheVariants as end
 use Rattle.mm_virtual.specs.Overriders.{IsSameAt, IsVirtualAt, IsFinal, HasNoFinal}
 use Rattle.mm_virtual.specs.Results.{IsBroken}
 
--- what is kept of one subobject: the numbers of its class's virtual members, and for each the final overrider, its
--- subobject first
+-- what is kept of one subobject: the numbers of its class's virtual members, and for each the final
+-- overrider, its subobject first
 pub record Line : Type 0 where
   pub members : List ℕ
   pub finals : List (ℕ × MemberRef)

@@ -44,8 +44,8 @@ pub record AreAround (g : List Class) (d n : ℕ) (around : List Bool) : Type 0 
   pub count : length around ≡ length (subobjects_of g d)
   pub each : (t : ℕ) → IsNode g d t → Decides (get_or around t false) (IsWithin g (node g d n) (node g d t))
 
--- Of the first subobjects, none contains the n-th and declares the function; or b does, and where one that does contains all
--- others that do, it is b.
+-- Of the first subobjects, none contains the n-th and declares the function; or b does, and where
+-- one that does contains all others that do, it is b.
 abbrev pub IsBestOf : List Class → ℕ → ℕ → Member → Option ℕ → ℕ → Type 0
 IsBestOf g d n m None bound = (t : ℕ) → t < bound → IsOver g d n m t → ⊥
 IsBestOf g d n m (Some b) bound = IsBest g d (IsOver g d n m) b bound
@@ -63,7 +63,8 @@ IsSeveralOf m (end.Several name place) = (name ≡ m.name) × (place ≡ m.place
 IsSeveralOf m (end.Result place) = ⊥
 IsSeveralOf m end.NoMemory = Unit {0}
 
--- nothing for a member that is not virtual in the class of the n-th subobject, and else its final overrider
+-- nothing for a member that is not virtual in the class of the n-th subobject, and else its final
+-- overrider
 abbrev pub IsLookedUp : List Class → ℕ → ℕ → Member → Option (ℕ × MemberRef) → Type 0
 IsLookedUp g d n m None = IsVirtualIn g (end_of (node g d n)) m → ⊥
 IsLookedUp g d n m (Some r) = IsVirtualIn g (end_of (node g d n)) m × IsFinalRef g d n m r

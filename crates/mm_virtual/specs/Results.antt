@@ -14,11 +14,13 @@ abbrev pub result_of : MemberKind → Ty
 result_of (kind.Field t) = ty.Void
 result_of (kind.Function ps r v) = r
 
--- class b declares the function m, as a virtual one, with a result from which the result of m may not differ so
+-- class b declares the function m, as a virtual one, with a result from which the result of m may
+-- not differ so
 abbrev pub BreaksAt : List Class → Member → ℕ → Type 0
 BreaksAt g m b = (o : Member) × Has (members_of g b) o × AreSame m o × IsVirtualIn g b o × (IsCovariant g (result_of m.kind) (result_of o.kind) → ⊥)
 
--- The member m of class c overrides a virtual function of a base, and its result is neither the same nor covariant (10.3/5).
+-- The member m of class c overrides a virtual function of a base, and its result is neither the
+-- same nor covariant (10.3/5).
 abbrev pub IsBroken : List Class → ℕ → Member → Type 0
 IsBroken g c m = (b : ℕ) × Derives g c b × BreaksAt g m b
 

@@ -17,7 +17,8 @@ pub struct MemberRef {
 pub enum FinalEnd {
     /// A virtual function of this name, declared here, has no only final overrider.
     Several(Text, Place),
-    /// The function that is declared here overrides one with a result from which its own may not differ so.
+    /// The function that is declared here overrides one with a result from which its own may not
+    /// differ so.
     Result(Place),
     NoMemory,
 }

@@ -8,14 +8,16 @@ use crate::end::MemberRef;
 use mm_classes::id::NodeId;
 use std::marker::Model;
 
-/// Of one subobject: the numbers of the virtual members of its class, and at the same places their final overriders.
+/// Of one subobject: the numbers of the virtual members of its class, and at the same places their
+/// final overriders.
 #[derive(Drop)]
 pub struct Row {
     pub members: Vec<u32>,
     pub finals: Vec<(NodeId, MemberRef)>,
 }
 
-/// For each subobject of a class, and each virtual member of that subobject's class, the final overrider.
+/// For each subobject of a class, and each virtual member of that subobject's class, the final
+/// overrider.
 #[derive(Drop)]
 pub struct Finals {
     rows: Vec<Row>,
@@ -74,8 +76,9 @@ impl Finals {
         Finals { rows }
     }
 
-    /// The final overrider of a virtual member of the class of the subobject `n`: the subobject that declares it, and the
-    /// member. It takes no memory, and as many steps as the number of virtual members has binary digits.
+    /// The final overrider of a virtual member of the class of the subobject `n`: the subobject
+    /// that declares it, and the member. It takes no memory, and as many steps as the number of
+    /// virtual members has binary digits.
     pub fn at(&self, n: NodeId, member: u32) -> (NodeId, MemberRef)
         requires { (r : ℕ × MemberRef) × Gives self.now n member r }
         ensures { Gives self.now n member result }

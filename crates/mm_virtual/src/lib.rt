@@ -7,3 +7,5 @@ pub mod make;
 pub mod over;
 pub mod results;
 pub mod same;
+#[cfg(test)]
+mod tests;

@@ -116,9 +116,10 @@ fn make_rows(alloc: Global, graph: &Graph, d: ClassId) -> Result<Vec<Row>, Final
     Ok(rows)
 }
 
-/// The final overriders of a class: of each virtual member of each of its subobjects' classes. `Result` is where the first
-/// member stands whose result breaks the rule; `Several`, where none does, is the first virtual function without an only
-/// final overrider, by subobject and then by member.
+/// The final overriders of a class: of each virtual member of each of its subobjects' classes.
+/// `Result` is where the first member stands whose result breaks the rule; `Several`, where none
+/// does, is the first virtual function without an only final overrider, by subobject and then by
+/// member.
 pub fn get_finals(alloc: Global, graph: &Graph, c: ClassId) -> Result<Finals, FinalEnd>
     requires { IsComplete graph.now c }
     ensures finals { IfOk result (λ f. AreFinals graph.now c f) }

@@ -156,8 +156,8 @@ fn contains_all(
     true
 }
 
-/// The final overrider, in objects of `d`, of a function that its subobject `n` declares; none where there is no only one.
-/// `around` tells which subobjects contain `n`.
+/// The final overrider, in objects of `d`, of a function that its subobject `n` declares; none
+/// where there is no only one. `around` tells which subobjects contain `n`.
 pub fn final_of(
     graph: &Graph,
     d: ClassId,

@@ -61,7 +61,8 @@ fn result_type(member: &Member) -> Ty
     }
 }
 
-// Whether a class declares the function as a virtual one with a result that the function's own may not take.
+// Whether a class declares the function as a virtual one with a result that the function's own may
+// not take.
 fn breaks_at(graph: &Graph, b: ClassId, m: &Member) -> bool
     requires valid { IsClassList graph.now }
     requires class { IsComplete graph.now b }

@@ -39,7 +39,8 @@ fn is_same(m: &Member, x: &Member) -> bool
     m.name.as_str() == x.name.as_str() && are_same_kind(&m.kind, &x.kind)
 }
 
-/// The number of the member of a class that is the same function. It goes over the members of the name alone.
+/// The number of the member of a class that is the same function. It goes over the members of the
+/// name alone.
 pub fn same_in(graph: &Graph, c: ClassId, m: &Member) -> Option<u32>
     requires { IsComplete graph.now c }
     ensures { MatchOption result (DeclaresSame (members_of graph.now c) m.now → ⊥) (λ k. IsSameAt (members_of graph.now c) m.now k) }
@@ -66,7 +67,8 @@ fn declares_virtual(graph: &Graph, c: ClassId, m: &Member) -> bool
     }
 }
 
-/// Whether a member of a class is a virtual function: by its own declaration, or by one that it overrides.
+/// Whether a member of a class is a virtual function: by its own declaration, or by one that it
+/// overrides.
 pub fn is_virtual_in(graph: &Graph, c: ClassId, m: &Member) -> bool
     requires valid { IsClassList graph.now }
     requires class { IsComplete graph.now c }
