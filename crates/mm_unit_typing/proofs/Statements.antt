@@ -4,6 +4,7 @@ use Rattle.std.specs.Prelude.{Option, Some, None, Ok}
 use Rattle.mm_base.specs.declared.place.Place.{Place}
 use Rattle.mm_classes.specs.declared.class.Ty.{Ty}
 use Rattle.mm_classes.specs.declared.class.Ty.TheVariants as ty
+use Rattle.mm_core.specs.Tree as k
 use Rattle.mm_syntax.specs.declared.name.Name.{Name}
 use Rattle.mm_syntax.specs.declared.name.DeclaratorMark.{DeclaratorMark}
 use Rattle.mm_syntax.specs.declared.expr.TypeName.{TypeName}
@@ -18,8 +19,9 @@ use Rattle.mm_typing.proofs.Reading.{reads, as_reads}
 use Rattle.mm_unit_typing.specs.declared.here.Here.{Here}
 use Rattle.mm_unit_typing.specs.Declarators.{scalar_of, unbuilt, Names, NamesNone}
 use Rattle.mm_unit_typing.specs.Scopes.{inside, within, turn_within, variable, behind, behind_start}
-use Rattle.mm_unit_typing.specs.Statements.{MayStand, MayNotStand, IsYours, IsNotYours, Begins, BeginsNot, AllBegin, SomeBeginsNot, VariablesType, VariablesFault, StartTypes, StartFaults, TestTypes, TestFaults, StepTypes, StepFaults, StmtTypes, StmtsType, StmtFaults, StmtsFault}
-use Rattle.mm_unit_typing.specs.Judge.{built, judge_type, may_stand, is_yours, judge_begin, judge_begins, judge_variables, judge_start, judge_test, judge_step, judge_stmt, judge_stmts}
+use Rattle.mm_unit_typing.specs.Made.{Made}
+use Rattle.mm_unit_typing.specs.Statements.{MayStand, MayNotStand, IsYours, IsNotYours, Begins, BeginsNot, AllBegin, SomeBeginsNot, VariablesType, VariablesFault, StartTypes, StartFaults, TestTypes, TestFaults, StepTypes, StepFaults, LoopTypes, LoopFaults, StmtTypes, StmtsType, StmtFaults, StmtsFault}
+use Rattle.mm_unit_typing.specs.Judge.{built, judge_type, may_stand, is_yours, judge_begin, judge_begins, judge_variables, judge_start, judge_test, judge_step, judge_loop, judge_stmt, judge_stmts}
 
 -- ---- types and names
 
@@ -67,6 +69,10 @@ module _ (env : Environment) where
   step vs None = gives _
   step vs (Some e) = last (reads (inside env vs) e) _
 
+  loop : (vs : List Var) (c s : Option Expr) (body : Checked (Made (List k.Stmt))) (T : Made (List k.Stmt) → Type 0) (F : Fault → Type 0) → Reads body T F
+      → Reads (judge_loop env vs c s body) (LoopTypes env vs c s T) (LoopFaults env vs c s F)
+  loop vs c s body T F h = part (test vs c) λ t. part (step vs s) λ u. last h _
+
   mutual
     pub stmt_reads : (here : Here) (vs : List Var) (locals : List Ty) (s : Stmt) → Reads (judge_stmt env here vs locals s) (StmtTypes env here vs locals s) (StmtFaults env here vs locals s)
     stmt_reads here vs locals (block p ss) = stmts_read (within here vs) vs locals ss
@@ -77,7 +83,7 @@ module _ (env : Environment) where
     stmt_reads here vs locals (if_else p e a b) = part (as_reads (inside env vs) ty.Bool e) λ c. part (stmt_reads (within here vs) vs locals a) λ x. last (stmt_reads (within here vs) vs x.locals b) _
     stmt_reads here vs locals (while_do p e a) = part (as_reads (inside env vs) ty.Bool e) λ c. last (stmt_reads (turn_within here vs) vs locals a) _
     stmt_reads here vs locals (do_while p a e) = part (stmt_reads (turn_within here vs) vs locals a) λ x. last (as_reads (inside env vs) ty.Bool e) _
-    stmt_reads here vs locals (for_do p first c s a) = part (start (within here vs) vs locals first) λ f. part (test (behind_start vs locals first) c) λ t. part (step (behind_start vs locals first) s) λ u. last (stmt_reads (turn_within here (behind_start vs locals first)) (behind_start vs locals first) f.locals a) _
+    stmt_reads here vs locals (for_do p first c s a) = part (start (within here vs) vs locals first) λ f. last (loop (behind_start vs locals first) c s _ _ _ (stmt_reads (turn_within here (behind_start vs locals first)) (behind_start vs locals first) f.locals a)) _
     stmt_reads here vs locals (break p) = last (met _ _) _
     stmt_reads here vs locals (continue p) = last (met _ _) _
     stmt_reads here vs locals (return_nothing p) = last (met _ _) _

@@ -80,6 +80,13 @@ module _ (env : Environment) where
     x ← judge (inside env vs) e
     Ok (k.run x.core)
 
+  abbrev pub judge_loop : List Var → Option Expr → Option Expr → Checked (Made (List k.Stmt)) → Checked (Made k.Stmt)
+  judge_loop vs c s body = do
+    test ← judge_test vs c
+    step ← judge_step vs s
+    x ← body
+    Ok (made (k.for_do test step (stmts_of x.tree)) x.locals)
+
   abbrev pub judge_jump : Here → Place → List ℕ → Checked (Unit {0})
   judge_jump here p word = demand here.in_loop (at S13 p word)
 
@@ -117,10 +124,9 @@ module _ (env : Environment) where
       Ok (made (k.do_while (stmts_of x.tree) c ∷ []) x.locals)
     judge_stmt here vs locals (for_do p start c s a) = do
       first ← judge_start (within here vs) vs locals start
-      test ← judge_test (behind_start vs locals start) c
-      step ← judge_step (behind_start vs locals start) s
-      x ← judge_stmt (turn_within here (behind_start vs locals start)) (behind_start vs locals start) first.locals a
-      Ok (made (first.tree ++ k.for_do test step (stmts_of x.tree) ∷ []) x.locals)
+      loop ← judge_loop (behind_start vs locals start) c s
+          (judge_stmt (turn_within here (behind_start vs locals start)) (behind_start vs locals start) first.locals a)
+      Ok (made (first.tree ++ loop.tree ∷ []) loop.locals)
     judge_stmt here vs locals (break p) = do
       u ← judge_jump here p (codes "break")
       Ok (made (k.break ∷ []) locals)
