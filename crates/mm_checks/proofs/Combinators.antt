@@ -14,16 +14,18 @@ module _ {A B : Type 0} where
     types = λ v t. let e : x ≡ t.0 = cc (a.types t.0 t.1) in rw e ((more t.0).types v t.2);
     is_fault = λ f e. inr (x, a.is_typed x refl, (more x).is_fault f e);
     faults = λ f t. elim t [
-      inl g ↦ absurd (cc (a.faults f g))
-      | inr t ↦ let e : x ≡ t.0 = cc (a.types t.0 t.1) in rw e ((more t.0).faults f t.2) ];
+      | inl g ↦ absurd (cc (a.faults f g))
+      | inr t ↦ let e : x ≡ t.0 = cc (a.types t.0 t.1) in rw e ((more t.0).faults f t.2)
+    ];
   }
   part {r = Err g} a more = record {
     is_typed = λ v e. absurd (cc);
     types = λ v t. absurd (cc (a.types t.0 t.1));
     is_fault = λ f e. inl (a.is_fault f (cc));
     faults = λ f t. elim t [
-      inl h ↦ let same : g ≡ f = cc (a.faults f h) in ap Err same
-      | inr t ↦ absurd (cc (a.types t.0 t.1)) ];
+      | inl h ↦ let same : g ≡ f = cc (a.faults f h) in ap Err same
+      | inr t ↦ absurd (cc (a.types t.0 t.1))
+    ];
   }
 
 -- a demand

@@ -35,13 +35,7 @@ impl<T: Drop> From<AllocFailed<T>> for CheckEnd {
 }
 
 /// A demand: the fault with this code, at this place, where the test fails. Nothing is allocated where it holds.
-pub fn need(
-    alloc: Global,
-    test: bool,
-    code: Code,
-    place: Place,
-    text: &str,
-) -> Result<(), CheckEnd>
+pub fn need(alloc: Global, test: bool, code: Code, place: Place, text: &str) -> Result<(), CheckEnd>
     ensures { Gives (λ u. u) result (demand test (at code place text.now)) }
 {
     if test {

@@ -69,7 +69,7 @@ module _ (g : List Class) (ok : IsClassList g) where
       let i : pairs_before g t n ≡ pairs_before g u n = pairs_agree t u tt' uu n (omega arith) in
       let low : n < length g = omega arith in
       let e : pairs_of g t n ≡ pairs_of g u n = sums_same (λ p. cond (t (end_of p)) 1 0) (λ p. cond (u (end_of p)) 1 0) (subobjects_of g n)
-          (λ p h. ap (λ b. cond b 1 0) (let k = end_low n p low h in bool_same (t (end_of p)) (u (end_of p)) (HasTag g (end_of p)) (tt' (end_of p) k) (uu (end_of p) k))) in
+      (λ p h. ap (λ b. cond b 1 0) (let k = end_low n p low h in bool_same (t (end_of p)) (u (end_of p)) (HasTag g (end_of p)) (tt' (end_of p) k) (uu (end_of p) k))) in
       plus (pairs_before g t n) (pairs_before g u n) (pairs_of g t n) (pairs_of g u n) i e
     where
       plus : (a b x y : ℕ) → a ≡ b → x ≡ y → a + x ≡ b + y

@@ -179,17 +179,19 @@ module _ (g : List Class) (ok : IsClassList g) (tagged : ℕ → Bool) (tells : 
       let long : length (chains g (length g) c) ≡ suc (length front) + suc (length rest) = ap length whole ∙ length-append ((c ∷ []) ∷ front) ((c ∷ b ∷ []) ∷ rest) in
       let subs : subobjects_of g c ≡ (((c ∷ []) ∷ front) ++ (c ∷ b ∷ []) ∷ rest) ++ flat_map (chains g (length g)) (virtual_bases g c)
       = ap (λ z. z ++ flat_map (chains g (length g)) (virtual_bases g c)) whole in
-      let size : length (((c ∷ []) ∷ front) ++ (c ∷ b ∷ []) ∷ rest) ≡ suc (length front) + suc (length rest) = length-append ((c ∷ []) ∷ front) ((c ∷ b ∷ []) ∷ rest) in
-      (suc (length front), record {
-        after = omega arith;
-        own = omega (arith, long);
-        path = ap (λ z. get_or z (suc (length front)) []) subs
-            ∙ (get_or_append_left (((c ∷ []) ∷ front) ++ (c ∷ b ∷ []) ∷ rest) _ [] (suc (length front)) (omega (arith, size))
-            ∙ get_or-append_seam ((c ∷ []) ∷ front) (c ∷ b ∷ []) rest []);
-        tag = r.3;
-        known = plain_complete c b (subst (λ z. Has z b) (sym r.2) (has_middle r.0 b r.1));
-        between = λ i lo hi. between_is c b r.0 r.1 r.2 r.4 front rest refl subs size i lo hi;
-      })
+      let size : length (((c ∷ []) ∷ front) ++ (c ∷ b ∷ []) ∷ rest) ≡ suc (length front) + suc (length rest) = length-append ((c ∷ []) ∷ front) ((c ∷ b ∷ []) ∷ rest) in (
+        suc (length front),
+        record {
+          after = omega arith;
+          own = omega (arith, long);
+          path = ap (λ z. get_or z (suc (length front)) []) subs
+              ∙ (get_or_append_left (((c ∷ []) ∷ front) ++ (c ∷ b ∷ []) ∷ rest) _ [] (suc (length front)) (omega (arith, size))
+              ∙ get_or-append_seam ((c ∷ []) ∷ front) (c ∷ b ∷ []) rest []);
+          tag = r.3;
+          known = plain_complete c b (subst (λ z. Has z b) (sym r.2) (has_middle r.0 b r.1));
+          between = λ i lo hi. between_is c b r.0 r.1 r.2 r.4 front rest refl subs size i lo hi;
+        },
+      )
     where
       between_is : (c b : ℕ) (pre post : List ℕ) → plain_bases (bases_of g c) ≡ pre ++ b ∷ post → ((x : ℕ) → Has pre x → tagged x ≡ false)
           → (front rest : List Path) → front ≡ flat_map (behind c) pre
@@ -230,15 +232,17 @@ module _ (g : List Class) (ok : IsClassList g) (tagged : ℕ → Bool) (tells : 
       let c : ℕ = end_of (node g d n) in
       let r = lent_place (end_of (node g d n)) b e in
       let at = place_on g ok d n r.0 h r.1.own in
-      let path : node g d (n + r.0) ≡ node g d n ++ b ∷ [] = at.1 ∙ (ap (compose (node g d n)) r.1.path ∙ compose-on (node g d n) (end_of (node g d n)) (b ∷ []) refl) in
-      (n + r.0, record {
-        after = let z = r.1.after in omega arith;
-        here = at.0;
-        path = path;
-        class = class_is d n r.0 h r.1.own at ∙ ap end_of r.1.path;
-        tag = r.1.tag;
-        between = λ k lo hi. between_at d n r.0 h r.1.own r.1.between k lo hi;
-      })
+      let path : node g d (n + r.0) ≡ node g d n ++ b ∷ [] = at.1 ∙ (ap (compose (node g d n)) r.1.path ∙ compose-on (node g d n) (end_of (node g d n)) (b ∷ []) refl) in (
+        n + r.0,
+        record {
+          after = let z = r.1.after in omega arith;
+          here = at.0;
+          path = path;
+          class = class_is d n r.0 h r.1.own at ∙ ap end_of r.1.path;
+          tag = r.1.tag;
+          between = λ k lo hi. between_at d n r.0 h r.1.own r.1.between k lo hi;
+        },
+      )
     where
       class_is : (d n j : ℕ) → IsNode g d n → j < length (chains g (length g) (end_of (node g d n)))
           → IsNode g d (n + j) × (node g d (n + j) ≡ compose (node g d n) (node g (end_of (node g d n)) j))

@@ -33,10 +33,15 @@ next_on g tagged d n None o none = λ k lo here. elim (low_or_same n k lo) [
   | inl e ↦ subst (λ z. owns_cell g tagged (end_of (node g d z)) ≡ false) (sym e) o
   | inr a ↦ none k a here
 ]
-next_on g tagged d n (Some h) o (here, from, owns, between) = (here, omega arith, owns, λ k lo hi. elim (low_or_same n k lo) [
-  | inl e ↦ subst (λ z. owns_cell g tagged (end_of (node g d z)) ≡ false) (sym e) o
-  | inr a ↦ between k a hi
-])
+next_on g tagged d n (Some h) o (here, from, owns, between) = (
+  here,
+  omega arith,
+  owns,
+  λ k lo hi. elim (low_or_same n k lo) [
+    | inl e ↦ subst (λ z. owns_cell g tagged (end_of (node g d z)) ≡ false) (sym e) o
+    | inr a ↦ between k a hi
+  ],
+)
 
 -- by a test of whether it owns one
 pub next_step : (g : List Class) (tagged : ℕ → Bool) (d n : ℕ) (next : Option ℕ) (b : Bool) → IsNode g d n → b ≡ owns_cell g tagged (end_of (node g d n))

@@ -71,8 +71,7 @@ module _ (g : List Class) (ok : IsClassList g) (tagged : ℕ → Bool) (tells : 
   uses_next d n h k (lent m b here there e path u) =
       let r = lends_at g ok tagged tells d n b here e in
       let s : m ≡ r.0 = one_node d m r.0 there r.1.here (path ∙ sym r.1.path) in
-      let i = uses_next d m h k u in
-      (
+      let i = uses_next d m h k u in (
         record {
           here = i.0.here;
           from = let a = r.1.after in let b = i.0.from in omega arith;

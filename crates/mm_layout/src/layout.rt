@@ -64,7 +64,14 @@ fn place_complete(
     let offsets = offsets(alloc, graph, sorts, c)?;
     let places = places(alloc, graph, sorts, c)?;
     let owners = owners(alloc, graph, sorts, c)?;
-    let cells = cells(alloc, graph, sorts, c, owners.as_slice(), offsets.as_slice())?;
+    let cells = cells(
+        alloc,
+        graph,
+        sorts,
+        c,
+        owners.as_slice(),
+        offsets.as_slice(),
+    )?;
     let (tags, next) = numbers(alloc, graph, sorts, c, owners.as_slice(), first)?;
     let placed = Placed {
         offsets,

@@ -25,11 +25,22 @@ lookup_cases (w ∷ vs) x = one (lookup_cases vs x) (bytes_eq w.name x) refl whe
       let same : w ≡ v = cc in
       let is : bytes_eq w.name x ≡ true = (bytes_eq-Decides w.name x).1 (ap (λ (y : Var). y.name) same ∙ n) in cc
   free_too free other (b ∷ before) after v e n = free before after v (cc) n
+
   one : Found vs x ⊎ NotFound vs x → (b : Bool) → bytes_eq w.name x ≡ b → Found (w ∷ vs) x ⊎ NotFound (w ∷ vs) x
-  one (inl h) b e = inl (h.0, (rw h.1.0 refl,
-      let m = h.1.1 in record { outer = w ∷ m.outer; inner = m.inner; stands = ap (λ y. w ∷ y) m.stands; name = m.name; hides = m.hides }))
-  one (inr h) true e = inl (w, (rw (h.0, e) refl,
-      record { outer = []; inner = vs; stands = refl; name = (bytes_eq-Decides w.name x).0 e; hides = h.1 }))
+  one (inl h) b e = inl (
+    h.0,
+    (
+      rw h.1.0 refl,
+      let m = h.1.1 in record { outer = w ∷ m.outer; inner = m.inner; stands = ap (λ y. w ∷ y) m.stands; name = m.name; hides = m.hides },
+    ),
+  )
+  one (inr h) true e = inl (
+    w,
+    (
+      rw (h.0, e) refl,
+      record { outer = []; inner = vs; stands = refl; name = (bytes_eq-Decides w.name x).0 e; hides = h.1 },
+    ),
+  )
   one (inr h) false e = inr (rw (h.0, e) refl, free_too h.1 e)
 
 pub free_is : (vs : List Var) (x : List ℕ) → IsFree vs x → lookup vs x ≡ None

@@ -83,6 +83,7 @@ places-push n [] f x = let e : n ≡ n + 0 = omega arith in ap (λ k. cond (byte
 places-push n (g ∷ fs) f x = rw (places-push (suc n) fs f x) (one (bytes_eq g.name x) (bytes_eq f.name x)) where
   at : suc n + length fs ≡ n + suc (length fs)
   at = omega arith
+
   one : (b c : Bool) → cond b (n ∷ cond c (places_from (suc n) fs x ++ (suc n + length fs) ∷ []) (places_from (suc n) fs x)) (cond c (places_from (suc n) fs x ++ (suc n + length fs) ∷ []) (places_from (suc n) fs x)) ≡ cond c (cond b (n ∷ places_from (suc n) fs x) (places_from (suc n) fs x) ++ (n + suc (length fs)) ∷ []) (cond b (n ∷ places_from (suc n) fs x) (places_from (suc n) fs x))
   one true true = ap (λ k. n ∷ (places_from (suc n) fs x ++ k ∷ [])) at
   one true false = refl
@@ -106,6 +107,7 @@ places-at n (f ∷ fs) x i k e = one (λ j d. places-at (suc n) fs x j k d) (byt
       let l : suc n ≤ k = h.0 in
       let m : k - n ≡ suc (k - suc n) = omega arith in
       (omega arith, ap (slice_get (f ∷ fs)) m ∙ h.1)
+
   one : ((j : ℕ) → slice_get (places_from (suc n) fs x) j ≡ Some k → (suc n ≤ k) × (slice_get fs (k - suc n) ≡ slice_get (named x fs) j)) → (b : Bool) (j : ℕ) → slice_get (cond b (n ∷ places_from (suc n) fs x) (places_from (suc n) fs x)) j ≡ Some k → (n ≤ k) × (slice_get (f ∷ fs) (k - n) ≡ slice_get (cond b (f ∷ named x fs) (named x fs)) j)
   one rest true zero d = let same : n ≡ k = cc in let z : k - n ≡ 0 = omega arith in (omega arith, ap (slice_get (f ∷ fs)) z)
   one rest true (suc j) d = later rest j d

@@ -23,12 +23,13 @@ module _ {A S : Type 0} (vs : List Var) (hidden : List (Option ℕ)) (m n : Inde
     long = simp length-append (ap (λ k. k + 1) t.long);
     inside = λ x. rw (up x) (rw (place-push vs v x) (one x (bytes_eq v.name x)));
     outside = λ k w g. elim (get-push vs v k w g) [
-      inl o ↦ (let low : k < length hidden = (let l = o.0 in let z = t.long in omega arith) in
-        let short : k ≤ length vs = (let l = o.0 in omega arith) in
-        get_or_append_left hidden (h ∷ []) None k low ∙ t.outside k w o.1 ∙ ap (λ ys. place_of ys w.name) (sym (take-append-le k vs (v ∷ []) short)))
+      | inl o ↦ (let low : k < length hidden = (let l = o.0 in let z = t.long in omega arith) in
+          let short : k ≤ length vs = (let l = o.0 in omega arith) in
+          get_or_append_left hidden (h ∷ []) None k low ∙ t.outside k w o.1 ∙ ap (λ ys. place_of ys w.name) (sym (take-append-le k vs (v ∷ []) short)))
       | inr o ↦ (let at : k ≡ length hidden = o.0 ∙ sym t.long in
-        ap (λ j. get_or (hidden ++ h ∷ []) j None) at ∙ get_or-append_seam hidden h [] None ∙ e ∙ t.inside v.name
-          ∙ ap (λ (y : Var). place_of vs y.name) o.1 ∙ ap (λ ys. place_of ys w.name) (sym (ap (λ j. take j (vs ++ v ∷ [])) o.0 ∙ take-append_seam vs (v ∷ [])))) ];
+          ap (λ j. get_or (hidden ++ h ∷ []) j None) at ∙ get_or-append_seam hidden h [] None ∙ e ∙ t.inside v.name
+          ∙ ap (λ (y : Var). place_of vs y.name) o.1 ∙ ap (λ ys. place_of ys w.name) (sym (ap (λ j. take j (vs ++ v ∷ [])) o.0 ∙ take-append_seam vs (v ∷ []))))
+    ];
   } where
     one : (x : List ℕ) (b : Bool) → unwrap_or (cond b (Some (Some (length vs))) (get_by_text m x)) None ≡ cond b (Some (length vs)) (place_of vs x)
     one x true = refl
@@ -46,6 +47,7 @@ module _ {A S : Type 0} (vs : List Var) (hidden : List (Option ℕ)) (m n : Inde
   ties_has t = got (get_by_text m v.name) refl where
     is : unwrap_or (get_by_text m v.name) None ≡ Some (length vs)
     is = t.inside v.name ∙ place-push vs v v.name ∙ ap (λ b. cond b (Some (length vs)) (place_of vs v.name)) (itself v.name)
+
     got : (o : Option (Option ℕ)) → get_by_text m v.name ≡ o → IsSome o
     got (Some p) e = refl
     got None e = absurd (let z = sym (ap (λ o. unwrap_or o None) e) ∙ is in cc)
@@ -56,21 +58,24 @@ module _ {A S : Type 0} (vs : List Var) (hidden : List (Option ℕ)) (m n : Inde
     long = long;
     inside = λ x. rw (up x) (one x (bytes_eq v.name x) refl);
     outside = λ k w g. (
-      let low : k < length vs = elim (get-push vs v k w (get-old vs v k w g)) [ inl o ↦ o.0 | inr o ↦ absurd (past k w g o.0) ] in
-      let short : k ≤ length vs = omega arith in
-      let inner : k < length hidden = (let z = long in omega arith) in
-      sym (get_or_append_left hidden (h ∷ []) None k inner) ∙ t.outside k w (get-old vs v k w g) ∙ ap (λ ys. place_of ys w.name) (take-append-le k vs (v ∷ []) short));
+        let low : k < length vs = elim (get-push vs v k w (get-old vs v k w g)) [ inl o ↦ o.0 | inr o ↦ absurd (past k w g o.0) ] in
+        let short : k ≤ length vs = omega arith in
+        let inner : k < length hidden = (let z = long in omega arith) in
+        sym (get_or_append_left hidden (h ∷ []) None k inner) ∙ t.outside k w (get-old vs v k w g) ∙ ap (λ ys. place_of ys w.name) (take-append-le k vs (v ∷ []) short));
   } where
     long : length hidden ≡ length vs
     long = let z = simp length-append at t.long in omega (arith, z)
+
     past : (k : ℕ) (w : Var) → slice_get vs k ≡ Some w → k ≡ length vs → ⊥
     past k w g e = none vs k e g where
       none : (ys : List Var) (j : ℕ) → j ≡ length ys → slice_get ys j ≡ Some w → ⊥
       none [] j e g = cc
       none (y ∷ ys) zero e g = cc
       none (y ∷ ys) (suc j) e g = none ys j (omega arith) g
+
     old : h ≡ place_of vs v.name
     old = sym (get_or-append_seam hidden h [] None) ∙ ap (λ j. get_or (hidden ++ h ∷ []) j None) long ∙ t.outside (length vs) v (get-last vs v) ∙ ap (λ ys. place_of ys v.name) (take-append_seam vs (v ∷ []))
+
     one : (x : List ℕ) (b : Bool) → bytes_eq v.name x ≡ b → unwrap_or (cond b (Some h) (get_by_text m x)) None ≡ place_of vs x
     one x true e = old ∙ ap (place_of vs) ((bytes_eq-Decides v.name x).0 e)
     one x false e = t.inside x ∙ place-push vs v x ∙ ap (λ b. cond b (Some (length vs)) (place_of vs x)) e
@@ -96,6 +101,7 @@ pub listed_more : {A B S : Type 0} (fs : List FnHead) (m n : IndexMap (String A)
 listed_more fs m n f fs' place name t more en ep ef = rw ef (record { each = λ x. more x ∙ rw (en, ep) (one x (bytes_eq f.name x) refl) }) where
   at : 0 + length fs ≡ length fs
   at = omega arith
+
   one : (x : List ℕ) (b : Bool) → bytes_eq f.name x ≡ b → cond b (listed (get_by_text m f.name) ++ length fs ∷ []) (listed (get_by_text m x)) ≡ places_of (fs ++ f ∷ []) x
   one x true s = ap (λ ps. ps ++ length fs ∷ []) (t.each f.name) ∙ ap (λ y. places_of fs y ++ length fs ∷ []) ((bytes_eq-Decides f.name x).0 s)
       ∙ ap (λ k. places_of fs x ++ k ∷ []) (sym at) ∙ sym (places-push 0 fs f x ∙ ap (λ b. cond b (places_of fs x ++ (0 + length fs) ∷ []) (places_of fs x)) s)

@@ -182,11 +182,6 @@ impl Vars {
     pub fn leave(&mut self, outer: usize)
         ensures { self.new ≡ take outer self.old }
     {
-        pop_to(
-            &mut self.list,
-            &mut self.hidden,
-            &mut self.innermost,
-            outer,
-        );
+        pop_to(&mut self.list, &mut self.hidden, &mut self.innermost, outer);
     }
 }

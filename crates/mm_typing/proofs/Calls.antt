@@ -22,13 +22,14 @@ use Rattle.mm_typing.specs.Typing.{NameCalls, NameCallsNone, Calls, CallsNone, C
 module _ (env : Environment) (p : Place) (x : List ℕ) where
   pub name_reads : Reads (own_name p x (declared env x) (lookup env.vars x)) (Types env (t.name p x)) (Faults env (t.name p x))
   name_reads = elim (lookup_cases env.vars x) [
-    inl h ↦ rw h.1.0 (record {
+    | inl h ↦ rw h.1.0 (record {
       is_typed = λ v e. (h.0, (h.1.1, cc));
       types = λ v t. let same : h.0 ≡ t.0 = cc (sym h.1.0 ∙ means_is env.vars x t.0 t.1.0) in rw same (ap Ok t.1.1);
       is_fault = λ f e. cc;
       faults = λ f t. absurd (let e = sym h.1.0 ∙ free_is env.vars x t.0 in cc);
     })
-    | inr h ↦ rw h.0 (none (declared env x) refl h.0 h.1) ] where
+    | inr h ↦ rw h.0 (none (declared env x) refl h.0 h.1)
+  ] where
     none : (cs : List Candidate) → declared env x ≡ cs → lookup env.vars x ≡ None → IsFree env.vars x → Reads (own_name p x cs None) (Types env (t.name p x)) (Faults env (t.name p x))
     none [] e gone free = record {
       is_typed = λ v e'. cc;
@@ -45,13 +46,14 @@ module _ (env : Environment) (p : Place) (x : List ℕ) where
 
   pub called_reads : Reads (called_name env p x (lookup env.vars x)) (NameCalls env x) (NameCallsNone env p x)
   called_reads = elim (lookup_cases env.vars x) [
-    inl h ↦ rw h.1.0 (record {
+    | inl h ↦ rw h.1.0 (record {
       is_typed = λ o e. inl (h.0, (h.1.1, cc));
       types = λ o t. elim t [ inl t ↦ ap Ok t.1.1 | inr t ↦ absurd (let e = sym h.1.0 ∙ free_is env.vars x t.0 in cc) ];
       is_fault = λ f e. cc;
       faults = λ f t. absurd (let e = sym h.1.0 ∙ free_is env.vars x t.0 in cc);
     })
-    | inr h ↦ rw h.0 (none (declared env x) refl h.0 h.1) ] where
+    | inr h ↦ rw h.0 (none (declared env x) refl h.0 h.1)
+  ] where
     none : (cs : List Candidate) → declared env x ≡ cs → lookup env.vars x ≡ None → IsFree env.vars x → Reads (some_declared p x cs (callable env x)) (NameCalls env x) (NameCallsNone env p x)
     none [] e gone free = record {
       is_typed = λ o e'. cc;
@@ -102,19 +104,20 @@ module _ (g : List Class) (e : t.Expr) (cs : List Candidate) (xs : List Typed) w
 
   chosen_reads : (b : Best) → Chooses b → Reads (take_best e cs xs b) (CallTypes g (Some cs) xs) (CallFaults g e (Some cs) xs)
   chosen_reads (best.One i) c =
-    let got = candidate_at i c in
-    rw got.1 (record {
-      is_typed = λ v s. (i, got.0, (c, (got.1, cc)));
-      types = λ v t.
-        let same-one = only (best.One i) (best.One t.0) c t.2.0 in
-        let same-i : i ≡ t.0 = cc in
-        let same : got.0 ≡ t.1 = cc (sym got.1 ∙ ap (slice_get cs) same-i ∙ t.2.1.0) in
-        rw same (ap Ok t.2.1.1);
-      is_fault = λ f s. cc;
-      faults = λ f t. elim t [
-        inl t ↦ absurd (let s = only (best.One i) best.None c t.0 in cc)
-        | inr t ↦ absurd (let s = only (best.One i) best.Several c t.0 in cc) ];
-    })
+      let got = candidate_at i c in
+      rw got.1 (record {
+        is_typed = λ v s. (i, got.0, (c, (got.1, cc)));
+        types = λ v t.
+            let same-one = only (best.One i) (best.One t.0) c t.2.0 in
+            let same-i : i ≡ t.0 = cc in
+            let same : got.0 ≡ t.1 = cc (sym got.1 ∙ ap (slice_get cs) same-i ∙ t.2.1.0) in
+            rw same (ap Ok t.2.1.1);
+        is_fault = λ f s. cc;
+        faults = λ f t. elim t [
+          | inl t ↦ absurd (let s = only (best.One i) best.None c t.0 in cc)
+          | inr t ↦ absurd (let s = only (best.One i) best.Several c t.0 in cc)
+        ];
+      })
   chosen_reads best.None c = record {
     is_typed = λ v s. cc;
     types = λ v t. absurd (let s = only best.None (best.One t.0) c t.2.0 in cc);

@@ -43,12 +43,12 @@ NoPlace x f g = ((l : ℕ) → x.kind ≡ kind.Local l → ⊥) × (f ≡ g)
 -- a place of type int or unsigned is changed by an arithmetic value (5.17/7)
 abbrev pub Changes : Operator → Typed → Typed → Typed → Type 0
 Changes op x y =
-  Then (IsPlace x) λ l. Then (Met (is_number x.ty && is_arithmetic y.ty)) λ u v.
-  changed op l x.ty y ≡ v
+    Then (IsPlace x) λ l. Then (Met (is_number x.ty && is_arithmetic y.ty)) λ u v.
+    changed op l x.ty y ≡ v
 
 abbrev pub ChangesNot : Fault → Typed → Typed → Fault → Type 0
 ChangesNot wrong x y =
-  First (IsPlace x) (NoPlace x wrong) λ l. First (Met (is_number x.ty && is_arithmetic y.ty)) (Unmet (is_number x.ty && is_arithmetic y.ty) wrong) λ u f. ⊥
+    First (IsPlace x) (NoPlace x wrong) λ l. First (Met (is_number x.ty && is_arithmetic y.ty)) (Unmet (is_number x.ty && is_arithmetic y.ty) wrong) λ u f. ⊥
 
 abbrev pub UnaryTypes : UnaryOperator → Typed → Typed → Type 0
 UnaryTypes unary.Plus x = Then (Met (is_arithmetic x.ty)) λ u v. plus x ≡ v
@@ -73,18 +73,18 @@ StepTypes op x = Then (IsPlace x) λ l. Then (Met (is_number x.ty)) λ u v. step
 
 abbrev pub StepFaults : StepOperator → Place → Typed → Fault → Type 0
 StepFaults op p x =
-  First (IsPlace x) (NoPlace x (wrong_step op p)) λ l. First (Met (is_number x.ty)) (Unmet (is_number x.ty) (wrong_step op p)) λ u f. ⊥
+    First (IsPlace x) (NoPlace x (wrong_step op p)) λ l. First (Met (is_number x.ty)) (Unmet (is_number x.ty) (wrong_step op p)) λ u f. ⊥
 
 -- both operands convert to bool (5.14/1, 5.15/1); the left one doesn't, or the right one
 abbrev pub AreTests : (Typed → Typed → Typed) → Typed → Typed → Typed → Type 0
 AreTests made x y =
-  Then (Met (converts x.ty ty.Bool)) λ u. Then (Met (converts y.ty ty.Bool)) λ w v.
-  made x y ≡ v
+    Then (Met (converts x.ty ty.Bool)) λ u. Then (Met (converts y.ty ty.Bool)) λ w v.
+    made x y ≡ v
 
 abbrev pub AreNoTests : t.Expr → t.Expr → Typed → Typed → Fault → Type 0
 AreNoTests a b x y =
-  First (Met (converts x.ty ty.Bool)) (Unmet (converts x.ty ty.Bool) (unconverted a)) λ u.
-  First (Met (converts y.ty ty.Bool)) (Unmet (converts y.ty ty.Bool) (unconverted b)) λ w f. ⊥
+    First (Met (converts x.ty ty.Bool)) (Unmet (converts x.ty ty.Bool) (unconverted a)) λ u.
+    First (Met (converts y.ty ty.Bool)) (Unmet (converts y.ty ty.Bool) (unconverted b)) λ w f. ⊥
 
 abbrev pub OperationTypes : Operation → Typed → Typed → Typed → Type 0
 OperationTypes operation.And x y = AreTests both_of x y
@@ -95,27 +95,27 @@ abbrev pub OperationFaults : Operation → Fault → t.Expr → t.Expr → Typed
 OperationFaults operation.And wrong a b x y = AreNoTests a b x y
 OperationFaults operation.Or wrong a b x y = AreNoTests a b x y
 OperationFaults (operation.Two op) wrong a b x y =
-  First (Met (is_arithmetic x.ty && is_arithmetic y.ty)) (Unmet (is_arithmetic x.ty && is_arithmetic y.ty) wrong) λ u f. ⊥
+    First (Met (is_arithmetic x.ty && is_arithmetic y.ty)) (Unmet (is_arithmetic x.ty && is_arithmetic y.ty) wrong) λ u f. ⊥
 
 abbrev pub ChooseTypes : Typed → Typed → Typed → Typed → Type 0
 ChooseTypes d x y =
-  Then (Met (converts d.ty ty.Bool)) λ u. Then (Met (are_branches x.ty y.ty)) λ w v.
-  chosen d x y ≡ v
+    Then (Met (converts d.ty ty.Bool)) λ u. Then (Met (are_branches x.ty y.ty)) λ w v.
+    chosen d x y ≡ v
 
 abbrev pub ChooseFaults : Place → t.Expr → Typed → Typed → Typed → Fault → Type 0
 ChooseFaults p c d x y =
-  First (Met (converts d.ty ty.Bool)) (Unmet (converts d.ty ty.Bool) (unconverted c)) λ u.
-  First (Met (are_branches x.ty y.ty)) (Unmet (are_branches x.ty y.ty) (wrong_choice p)) λ w f. ⊥
+    First (Met (converts d.ty ty.Bool)) (Unmet (converts d.ty ty.Bool) (unconverted c)) λ u.
+    First (Met (are_branches x.ty y.ty)) (Unmet (are_branches x.ty y.ty) (wrong_choice p)) λ w f. ⊥
 
 abbrev pub AssignTypes : Assignment → Typed → Typed → Typed → Type 0
 AssignTypes assignment.Set x y =
-  Then (IsPlace x) λ l. Then (Met (converts y.ty x.ty)) λ u v.
-  set l x.ty y ≡ v
+    Then (IsPlace x) λ l. Then (Met (converts y.ty x.ty)) λ u v.
+    set l x.ty y ≡ v
 AssignTypes (assignment.Change op) x y = Changes op x y
 
 abbrev pub AssignFaults : Assignment → Fault → t.Expr → Typed → Typed → Fault → Type 0
 AssignFaults assignment.Set wrong b x y =
-  First (IsPlace x) (NoPlace x wrong) λ l. First (Met (converts y.ty x.ty)) (Unmet (converts y.ty x.ty) (unconverted b)) λ u f. ⊥
+    First (IsPlace x) (NoPlace x wrong) λ l. First (Met (converts y.ty x.ty)) (Unmet (converts y.ty x.ty) (unconverted b)) λ u f. ⊥
 AssignFaults (assignment.Change op) wrong b x y = ChangesNot wrong x y
 
 -- ---- names and calls
@@ -142,14 +142,14 @@ CallsNone env other T F = First T F λ y f. ⊥
 abbrev pub CallTypes : List Class → Option (List Candidate) → List Typed → Typed → Type 0
 CallTypes g None xs = λ v. ⊥
 CallTypes g (Some cs) xs = λ v.
-  (i : ℕ) × (c : Candidate) × (IsChoice g (map arg_of xs) (map params_in cs) (best.One i) × ((slice_get cs i ≡ Some c) × (call_of c xs ≡ v)))
+    (i : ℕ) × (c : Candidate) × (IsChoice g (map arg_of xs) (map params_in cs) (best.One i) × ((slice_get cs i ≡ Some c) × (call_of c xs ≡ v)))
 
 -- the name called is no function, or none of its functions is viable, or several are and none is best
 abbrev pub CallFaults : List Class → t.Expr → Option (List Candidate) → List Typed → Fault → Type 0
 CallFaults g e None xs = λ f. at S12 (place_of e) (first_text e) ≡ f
 CallFaults g e (Some cs) xs = λ f.
-  (IsChoice g (map arg_of xs) (map params_in cs) best.None × (at S8 (place_of e) (first_text e) ≡ f)) ⊎
-  (IsChoice g (map arg_of xs) (map params_in cs) best.Several × (at S9 (place_of e) (first_text e) ≡ f))
+    (IsChoice g (map arg_of xs) (map params_in cs) best.None × (at S8 (place_of e) (first_text e) ≡ f)) ⊎
+    (IsChoice g (map arg_of xs) (map params_in cs) best.Several × (at S9 (place_of e) (first_text e) ≡ f))
 
 -- ---- expressions
 
@@ -187,19 +187,19 @@ module _ (env : Environment) where
     Faults (t.unary p op a) = First (Types a) (Faults a) λ x. UnaryFaults op p a x
     Faults (t.step p a op at) = First (Types a) (Faults a) λ x. StepFaults op at x
     Faults (t.binary p a op at b) =
-      First (Types a) (Faults a) λ x. First (Types b) (Faults b) λ y.
-      OperationFaults (operation_of op) (wrong_binary op at) a b x y
+        First (Types a) (Faults a) λ x. First (Types b) (Faults b) λ y.
+        OperationFaults (operation_of op) (wrong_binary op at) a b x y
     Faults (t.choose p c at a b) =
-      First (Types c) (Faults c) λ d. First (Types a) (Faults a) λ x. First (Types b) (Faults b) λ y.
-      ChooseFaults at c d x y
+        First (Types c) (Faults c) λ d. First (Types a) (Faults a) λ x. First (Types b) (Faults b) λ y.
+        ChooseFaults at c d x y
     Faults (t.assign p a op at b) =
-      First (Types a) (Faults a) λ x. First (Types b) (Faults b) λ y.
-      AssignFaults (assignment_of op) (wrong_assign op at) b x y
+        First (Types a) (Faults a) λ x. First (Types b) (Faults b) λ y.
+        AssignFaults (assignment_of op) (wrong_assign op at) b x y
     Faults (t.new p class) = λ f. unbuilt p ≡ f
     Faults (t.make p class es) = λ f. unbuilt p ≡ f
     Faults (t.call p e es) =
-      First (Calls env e (Types e)) (CallsNone env e (Types e) (Faults e)) λ cs. First (AreTyped es) (HaveFault es) λ xs.
-      CallFaults env.classes e cs xs
+        First (Calls env e (Types e)) (CallsNone env e (Types e) (Faults e)) λ cs. First (AreTyped es) (HaveFault es) λ xs.
+        CallFaults env.classes e cs xs
     Faults (t.member p a op at class word) = λ f. unbuilt p ≡ f
 
     pub HaveFault : t.Exprs → Fault → Type 0

@@ -98,8 +98,10 @@ module _ (a : Around) (known : List ℕ) where
   function_valid h es s suit valid = by (list_any (λ v. v) h.virtuals) refl where
     fits : AllSuit (types_of a (exprs_of es)) (argument_types a.classes s.function)
     fits = subst (AllSuit (types_of a (exprs_of es))) (sym s.params) suit
+
     result : result_of_function (slice_get a.functions h.number) ≡ h.result
     result = ap result_of_function s.there ∙ s.result
+
     by : (o : Bool) → list_any (λ v. v) h.virtuals ≡ o → IsOf a known (if o then k.open_call h.number (exprs_of es) else k.call h.number (exprs_of es)) h.result
     by true e = (result, ((s.function, s.there, s.opened ∙ e, s.called, fits), valid))
     by false e = (result, ((s.function, s.there, s.opened ∙ e, s.called, fits), valid))

@@ -97,6 +97,7 @@ any_false p (x ∷ fs) f e m = elim m [
   left : (b c : Bool) → (b || c) ≡ false → b ≡ false
   left true c e = cc
   left false c e = refl
+
   right : (b c : Bool) → (b || c) ≡ false → c ≡ false
   right true c e = cc
   right false c e = e
@@ -124,6 +125,7 @@ same_result fs name h d f e m i = same_is f.result h.result (by (is_function nam
   no : (b : Bool) → not b ≡ true → b ≡ false
   no true e = cc
   no false e = refl
+
   by : (b c d : Bool) → b ≡ true → (b && (not c || d)) ≡ false → c ≡ true
   by true true d e n = refl
   by true false d e n = cc
@@ -207,8 +209,8 @@ extends_declared fs name h = by (list_any (is_function name.text h.params) fs) w
 
 other_than : (fs : List k.Function) (name : Name) (h : Heading) (f : k.Function) → is_function name.text h.params f ≡ false → AreApart f (declared_function name h)
 other_than fs name h f e n c = absurd (let z : is_function name.text h.params f ≡ true = both (bytes_eq f.name name.text) (same_types (types_of_params f.params) h.params)
-      ((bytes_eq-Decides f.name name.text).1 n)
-      ((bytes_eq-Decides (map type_code (types_of_params f.params)) (map type_code h.params)).1 (c ∙ ap (map type_code) (params_types h.params))) in let y : true ≡ false = sym z ∙ e in cc)
+    ((bytes_eq-Decides f.name name.text).1 n)
+    ((bytes_eq-Decides (map type_code (types_of_params f.params)) (map type_code h.params)).1 (c ∙ ap (map type_code) (params_types h.params))) in let y : true ≡ false = sym z ∙ e in cc)
   where
     both : (b c : Bool) → b ≡ true → c ≡ true → (b && c) ≡ true
     both b c e f = rw (e, f) refl

@@ -65,8 +65,8 @@ module _ (env : Environment) (a : Around) where
       let own : Begins (before ++ h.0 ∷ []) a.locals = (h.2.0 ++ next.0, sym (append-append (before ++ h.0 ∷ []) h.2.0 next.0) ∙ next.1) in
       let rest = params_vars (vs ++ parameter (length before) q) qs h.2.0 (before ++ h.0 ∷ []) (subst (λ n. ParamsType n (vs ++ parameter (length before) q) qs h.2.0) (length-last before h.0) h.2.1) next in
       with_vars env a (parameter (length before) q) (parameters_from (length before + 1) qs)
-        (subst (λ t. AllVars env a (parameter_named q.name t (length before))) (sym (param_type vs q h.0 h.1)) (one_named q.name h.0 before (param_arithmetic vs q h.0 h.1) own))
-        (subst (λ n. AllVars env a (parameters_from n qs)) (sym (length-last before h.0)) rest)
+      (subst (λ t. AllVars env a (parameter_named q.name t (length before))) (sym (param_type vs q h.0 h.1)) (one_named q.name h.0 before (param_arithmetic vs q h.0 h.1) own))
+      (subst (λ n. AllVars env a (parameters_from n qs)) (sym (length-last before h.0)) rest)
 
 -- ---- heads
 

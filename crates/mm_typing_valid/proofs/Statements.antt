@@ -74,6 +74,7 @@ module _ (a : Around) (result : Ty) where
     starts_valid here t p vs locals x s l f r b h = by x.initializer r h where
       arithmetic : is_arithmetic t ≡ true
       arithmetic = holds_arithmetic x.mark t p (may_begin env a here t vs (length locals) x s h)
+
       by : (i : syntax.Initializer) → InitializerInRange i → Starts env here t vs (length locals) x.mark x.name i s → IsValidAt a result l s
       by syntax.no_initial r h = subst (IsValidAt a result l) h.2.2 (set_valid l locals t (zero_of t) arithmetic b (λ known. zero_valid a known t arithmetic))
       by (syntax.initial e) r h = subst (IsValidAt a result l) h.2.2.2.2 (set_valid l locals t h.2.2.0 arithmetic b (λ known. as_valid vs t e h.2.2.0 f r (h.0, h.1, h.2.2.1) known))
@@ -88,7 +89,7 @@ module _ (a : Around) (result : Ty) where
         let n = holds_arithmetic x.mark t p (may_begin env a here t vs (length locals) x h.0 h.1) in
         let g = with_vars env a vs (variable x.name.text t (length locals) ∷ []) f (λ y m. elim m [ first e ↦ subst (IsVarOf a) e (var_at env a locals t x.name.text n deeper) | later k ↦ elim k [ ] ]) in
         subst (λ (w : Made (List k.Stmt)). AreValidAt a result l w.tree) h.2.2
-          (starts_valid here t p vs locals x h.0 l f r.0 deeper h.1, all_start here t p next (locals ++ t ∷ []) xs h.2.0 l g r.1 stays h.2.1)
+        (starts_valid here t p vs locals x h.0 l f r.0 deeper h.1, all_start here t p next (locals ++ t ∷ []) xs h.2.0 l g r.1 stays h.2.1)
 
     start_valid : (here : Here) (vs : List Var) (locals : List Ty) (x : syntax.Start) (v : Made (List k.Stmt)) (l : Bool) → AllVars env a vs → StartInRange x → Begins v.locals a.locals → StartTypes env here vs locals x v → AreValidAt a result l v.tree
     start_valid here vs locals syntax.no_start v l f r b h = subst (λ (w : Made (List k.Stmt)). AreValidAt a result l w.tree) h ((λ known. tt), tt)
@@ -121,24 +122,24 @@ module _ (a : Around) (result : Ty) where
           let stays = subst (λ (w : Made (List k.Stmt)). Begins w.locals a.locals) (sym h.2.2) b in
           let x = stmt_valid (within here vs) same vs locals s h.2.0 f r.1 stays h.2.1 in
           subst (λ (w : Made (List k.Stmt)). AreValidAt a result here.in_loop w.tree) h.2.2
-            ((λ known. (as_valid vs ty.Bool e h.0 f r.0 h.1 known, stmts_valid here.in_loop h.2.0.tree known x, tt)), tt)
+          ((λ known. (as_valid vs ty.Bool e h.0 f r.0 h.1 known, stmts_valid here.in_loop h.2.0.tree known x, tt)), tt)
       stmt_valid here same vs locals (syntax.if_else p e s u) v f r b h =
           let stays = subst (λ (w : Made (List k.Stmt)). Begins w.locals a.locals) (sym h.2.2.2) b in
           let later = stmt_extends env (within here vs) vs h.2.0.locals u h.2.2.0 h.2.2.1 in
           let x = stmt_valid (within here vs) same vs locals s h.2.0 f r.1 (further h.2.0.locals h.2.2.0.locals a.locals later stays) h.2.1 in
           let y = stmt_valid (within here vs) same vs h.2.0.locals u h.2.2.0 f r.2 stays h.2.2.1 in
           subst (λ (w : Made (List k.Stmt)). AreValidAt a result here.in_loop w.tree) h.2.2.2
-            ((λ known. (as_valid vs ty.Bool e h.0 f r.0 h.1 known, stmts_valid here.in_loop h.2.0.tree known x, stmts_valid here.in_loop h.2.2.0.tree known y)), tt)
+          ((λ known. (as_valid vs ty.Bool e h.0 f r.0 h.1 known, stmts_valid here.in_loop h.2.0.tree known x, stmts_valid here.in_loop h.2.2.0.tree known y)), tt)
       stmt_valid here same vs locals (syntax.while_do p e s) v f r b h =
           let stays = subst (λ (w : Made (List k.Stmt)). Begins w.locals a.locals) (sym h.2.2) b in
           let x = stmt_valid (turn_within here vs) same vs locals s h.2.0 f r.1 stays h.2.1 in
           subst (λ (w : Made (List k.Stmt)). AreValidAt a result here.in_loop w.tree) h.2.2
-            ((λ known. (as_valid vs ty.Bool e h.0 f r.0 h.1 known, stmts_valid true h.2.0.tree known x)), tt)
+          ((λ known. (as_valid vs ty.Bool e h.0 f r.0 h.1 known, stmts_valid true h.2.0.tree known x)), tt)
       stmt_valid here same vs locals (syntax.do_while p s e) v f r b h =
           let stays = subst (λ (w : Made (List k.Stmt)). Begins w.locals a.locals) (sym h.2.2) b in
           let x = stmt_valid (turn_within here vs) same vs locals s h.0 f r.0 stays h.1 in
           subst (λ (w : Made (List k.Stmt)). AreValidAt a result here.in_loop w.tree) h.2.2
-            ((λ known. (stmts_valid true h.0.tree known x, as_valid vs ty.Bool e h.2.0 f r.1 h.2.1 known)), tt)
+          ((λ known. (stmts_valid true h.0.tree known x, as_valid vs ty.Bool e h.2.0 f r.1 h.2.1 known)), tt)
       stmt_valid here same vs locals (syntax.for_do p start c s u) v f r b h =
           let stays = subst (λ (w : Made (List k.Stmt)). Begins w.locals a.locals) (sym h.2.2.2.2) b in
           let all = behind_start vs locals start in
@@ -148,8 +149,8 @@ module _ (a : Around) (result : Ty) where
           let step = step_valid all s h.2.2.0 true g r.2 h.2.2.1 in
           let y = stmt_valid (turn_within here all) same all h.0.locals u h.2.2.2.0 g r.3 stays h.2.2.2.1 in
           subst (λ (w : Made (List k.Stmt)). AreValidAt a result here.in_loop w.tree) h.2.2.2.2
-            (both_valid here.in_loop h.0.tree (k.for_do h.2.0 h.2.2.0 (stmts_of h.2.2.2.0.tree) ∷ []) x
-              ((λ known. (test_valid all c h.2.0 g r.1 h.2.1 known, step.0, step.1 known, stmts_valid true h.2.2.2.0.tree known y)), tt))
+          (both_valid here.in_loop h.0.tree (k.for_do h.2.0 h.2.2.0 (stmts_of h.2.2.2.0.tree) ∷ []) x
+          ((λ known. (test_valid all c h.2.0 g r.1 h.2.1 known, step.0, step.1 known, stmts_valid true h.2.2.2.0.tree known y)), tt))
       stmt_valid here same vs locals (syntax.break p) v f r b h = subst (λ (w : Made (List k.Stmt)). AreValidAt a result here.in_loop w.tree) h.2 ((λ known. h.1), tt)
       stmt_valid here same vs locals (syntax.continue p) v f r b h = subst (λ (w : Made (List k.Stmt)). AreValidAt a result here.in_loop w.tree) h.2 ((λ known. h.1), tt)
       stmt_valid here same vs locals (syntax.return_nothing p) v f r b h = subst (λ (w : Made (List k.Stmt)). AreValidAt a result here.in_loop w.tree) h.2 ((λ known. same ∙ void_here here.result h.1), tt)
@@ -164,7 +165,7 @@ module _ (a : Around) (result : Ty) where
           let g = vars_behind env a here vs locals s h.0 f first h.1 in
           let y = all_valid here same (behind vs locals s) h.0.locals ss h.2.0 g r.1 stays h.2.1 in
           subst (λ (w : Made (List k.Stmt)). AreValidAt a result here.in_loop w.tree) h.2.2
-            (both_valid here.in_loop (nodes_of s h.0.tree) h.2.0.tree (nodes_valid here.in_loop s h.0.tree x) y)
+          (both_valid here.in_loop (nodes_of s h.0.tree) h.2.0.tree (nodes_valid here.in_loop s h.0.tree x) y)
 
 pub typed_stmt_is_valid : TypedStmtIsValid
 typed_stmt_is_valid a env heads here vs locals s v f r b h = stmt_valid a here.result env heads here refl vs locals s v f r b h

@@ -83,10 +83,10 @@ module _ (env : Environment) where
   returned : (here : Here) (vs : List Var) (locals : List Ty) (p : Place) (e : Expr) → Reads (judge_stmt env here vs locals (return p e)) (StmtTypes env here vs locals (return p e)) (StmtFaults env here vs locals (return p e))
   unfolding judge_stmt judge_return
   returned here vs locals p e = as_said (last (part (reads (inside env vs) e) λ x. part (met _ _) λ u. last (becomes here.result e x) _) _)
-    (λ v t. let r = t.1 in (r.0, r.1, (r.2.0, r.2.1, (r.2.2.0, r.2.2.1, ap (λ s. made (s ∷ []) locals) r.2.2.2 ∙ t.2))))
-    (λ v t. (k.return t.2.2.0, (t.0, t.1, (t.2.0, t.2.1, (t.2.2.0, t.2.2.1, refl))), t.2.2.2))
-    (λ f t. t)
-    (λ f t. t)
+      (λ v t. let r = t.1 in (r.0, r.1, (r.2.0, r.2.1, (r.2.2.0, r.2.2.1, ap (λ s. made (s ∷ []) locals) r.2.2.2 ∙ t.2))))
+      (λ v t. (k.return t.2.2.0, (t.0, t.1, (t.2.0, t.2.1, (t.2.2.0, t.2.2.1, refl))), t.2.2.2))
+      (λ f t. t)
+      (λ f t. t)
 
   mutual
     unfolding judge_stmt judge_stmts

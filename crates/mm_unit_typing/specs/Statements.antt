@@ -165,7 +165,7 @@ module _ (env : Environment) where
     StmtTypes here vs locals (for_do p start c s a) =
         Then (StartTypes (within here vs) vs locals start) λ first.
         Then (LoopTypes (behind_start vs locals start) c s
-            (StmtTypes (turn_within here (behind_start vs locals start)) (behind_start vs locals start) first.locals a)) λ loop v.
+        (StmtTypes (turn_within here (behind_start vs locals start)) (behind_start vs locals start) first.locals a)) λ loop v.
         made (first.tree ++ loop.tree ∷ []) loop.locals ≡ v
     StmtTypes here vs locals (break p) = Then (Met here.in_loop) λ u v. made (k.break ∷ []) locals ≡ v
     StmtTypes here vs locals (continue p) = Then (Met here.in_loop) λ u v. made (k.continue ∷ []) locals ≡ v
@@ -207,7 +207,7 @@ module _ (env : Environment) where
     StmtFaults here vs locals (for_do p start c s a) =
         First (StartTypes (within here vs) vs locals start) (StartFaults (within here vs) vs locals start) λ first.
         LoopFaults (behind_start vs locals start) c s
-            (StmtFaults (turn_within here (behind_start vs locals start)) (behind_start vs locals start) first.locals a)
+        (StmtFaults (turn_within here (behind_start vs locals start)) (behind_start vs locals start) first.locals a)
     StmtFaults here vs locals (break p) = Unmet here.in_loop (at S13 p (codes "break"))
     StmtFaults here vs locals (continue p) = Unmet here.in_loop (at S13 p (codes "continue"))
     StmtFaults here vs locals (return_nothing p) = Unmet (is_void here.result) (at S14 p (codes "return"))

@@ -67,7 +67,7 @@ module _ (g : List Class) (ok : IsClassList g) (d n : ℕ) (m : Member) where
       → (ContainsAll g d (IsOver g d n m) b (length (subobjects_of g d)) → ⊥) → HasNoFinal g d n m
   several_final around all b h never t (here, left, one) =
       let r : Picks up.Several (IsLeft g d (IsOver g d n m)) (length (subobjects_of g d)) = tops_several g ok d (IsOver g d n m) (λ k hk. over_or around all k hk) b h.below h.fits
-          (λ k hk p whole. never (subst (λ z. ContainsAll g d (IsOver g d n m) z (length (subobjects_of g d))) (h.only k hk p whole) whole)) in
+      (λ k hk p whole. never (subst (λ z. ContainsAll g d (IsOver g d n m) z (length (subobjects_of g d))) (h.only k hk p whole) whole)) in
       two r.0 r.1 r.2 (one r.0 (let a = r.2 in let b = r.3 in omega arith) r.4) (one r.1 r.3 r.5)
     where
       two : (x y : ℕ) → x < y → x ≡ t → y ≡ t → ⊥

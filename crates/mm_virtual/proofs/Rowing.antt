@@ -111,8 +111,14 @@ module _ (g : List Class) (d n : ℕ) where
     below = below_push l.members k h.below;
     some = λ j x lo v. elim (last_or j k lo) [
       | inl a ↦ (let s = h.some j x a v in (s.0, (s.1.0, get_left l.members (k ∷ []) s.1.0 j s.1.1, get_left l.finals (r ∷ []) s.1.0 s.0 s.1.2)))
-      | inr e ↦ (r, (length l.members, subst (λ z. slice_get (l.members ++ k ∷ []) (length l.members) ≡ Some z) (sym e) (get_end l.members k),
-          subst (λ z. slice_get (l.finals ++ r ∷ []) z ≡ Some r) h.row.long (get_end l.finals r)))
+      | inr e ↦ (
+        r,
+        (
+          length l.members,
+          subst (λ z. slice_get (l.members ++ k ∷ []) (length l.members) ≡ Some z) (sym e) (get_end l.members k),
+          subst (λ z. slice_get (l.finals ++ r ∷ []) z ≡ Some r) h.row.long (get_end l.finals r),
+        ),
+      )
     ];
     each = λ j x s v t. each_is j x s v t;
   }

@@ -128,10 +128,14 @@ search_on ms m from None none next = λ (x, h, s). none_on x h s
           | inl l ↦ none r.0 x l r.1 s
           | inr l ↦ next r.0 l p.0 (p.2 ∙ sym s.0)
         ]
-search_on ms m from (Some k) none next = (next.1, next.2, λ j x l e s. elim (low_or j from) [
-  | inl a ↦ none j x a e s
-  | inr a ↦ (let p = place_at ms j x e in next.3 j a l (p.2 ∙ sym s.0))
-])
+search_on ms m from (Some k) none next = (
+  next.1,
+  next.2,
+  λ j x l e s. elim (low_or j from) [
+    | inl a ↦ none j x a e s
+    | inr a ↦ (let p = place_at ms j x e in next.3 j a l (p.2 ∙ sym s.0))
+  ],
+)
 
 pub search_first : (ms : List Member) (m : Member) (at : Option ℕ) → IsNextNamed at ms m.name 0 → IsSearch ms m at
 search_first ms m at next = search_on ms m 0 at (λ j x l e s. no_less j l) next

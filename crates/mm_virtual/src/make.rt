@@ -55,11 +55,7 @@ fn look(
 }
 
 // A row with one more member, if it is virtual.
-fn add_found(
-    row: &mut Row,
-    k: u32,
-    found: Option<(NodeId, MemberRef)>,
-) -> Result<(), AllocError>
+fn add_found(row: &mut Row, k: u32, found: Option<(NodeId, MemberRef)>) -> Result<(), AllocError>
     ensures { OnOk result (line_of row.new ≡ with_found (line_of row.old) k found) }
 {
     if let Some(found) = found {

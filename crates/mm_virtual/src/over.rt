@@ -18,12 +18,7 @@ use mm_paths::graph::Graph;
 use std::alloc::{AllocError, Global};
 
 /// For each subobject of a class whether it contains the one given.
-pub fn around(
-    alloc: Global,
-    graph: &Graph,
-    d: ClassId,
-    n: NodeId,
-) -> Result<Vec<bool>, AllocError>
+pub fn around(alloc: Global, graph: &Graph, d: ClassId, n: NodeId) -> Result<Vec<bool>, AllocError>
     requires class { IsComplete graph.now d }
     requires node { IsNode graph.now d n }
     ensures { IfOk result (λ v. AreAround graph.now d n v.items) }

@@ -22,13 +22,13 @@ loop-n-preserved c =
     let class : c.class_of-class.result ≡ end_of (node c.args.graph.now c.args.d (c.loop-n.n - 1)) = c.class_of-class.ensures.class in
     let next : IsNextOf c.args.graph.now (test_of c.args.sorts.now.tags.items) c.args.d (c.loop-n.n - 1) c.nearest-next.result
     = subst (IsNextOf c.args.graph.now (test_of c.args.sorts.now.tags.items) c.args.d (c.loop-n.n - 1)) (sym c.nearest-next.ensures)
-        (next_step c.args.graph.now (test_of c.args.sorts.now.tags.items) c.args.d (c.loop-n.n - 1) c.loop-n.next (get_or c.args.sorts.now.owning.items c.class_of-class.result false) here
-        (c.requires.sorts.owning.each c.class_of-class.result c.class_of-class.ensures.complete ∙ ap (owns_cell c.args.graph.now (test_of c.args.sorts.now.tags.items)) class)
-        (subst (λ z. IsNextOf c.args.graph.now (test_of c.args.sorts.now.tags.items) c.args.d z c.loop-n.next) back c.loop-n.invariant.next_is)) in
+    (next_step c.args.graph.now (test_of c.args.sorts.now.tags.items) c.args.d (c.loop-n.n - 1) c.loop-n.next (get_or c.args.sorts.now.owning.items c.class_of-class.result false) here
+    (c.requires.sorts.owning.each c.class_of-class.result c.class_of-class.ensures.complete ∙ ap (owns_cell c.args.graph.now (test_of c.args.sorts.now.tags.items)) class)
+    (subst (λ z. IsNextOf c.args.graph.now (test_of c.args.sorts.now.tags.items) c.args.d z c.loop-n.next) back c.loop-n.invariant.next_is)) in
     let user : IsUser c.args.graph.now (test_of c.args.sorts.now.tags.items) c.args.d (c.loop-n.n - 1) c.used.result
     = subst (IsUser c.args.graph.now (test_of c.args.sorts.now.tags.items) c.args.d (c.loop-n.n - 1)) (sym c.used.ensures)
-        (used_is c.args.graph.now c.requires.valid (test_of c.args.sorts.now.tags.items) c.requires.sorts.tags.1 c.args.d c.requires.class (c.loop-n.n - 1) c.nearest-next.result
-        (test_of c.args.sorts.now.tags.items c.class_of-class.result) here (ap (test_of c.args.sorts.now.tags.items) class) next) in
+    (used_is c.args.graph.now c.requires.valid (test_of c.args.sorts.now.tags.items) c.requires.sorts.tags.1 c.args.d c.requires.class (c.loop-n.n - 1) c.nearest-next.result
+    (test_of c.args.sorts.now.tags.items c.class_of-class.result) here (ap (test_of c.args.sorts.now.tags.items) class) next) in
     record {
       low = omega arith;
       long = length-set c.loop-n.owners.items (c.loop-n.n - 1) c.used.result ∙ c.loop-n.invariant.long;

@@ -12,5 +12,5 @@ pub returns-clause-ok : goal.returns-clause-ok
 returns-clause-ok c =
     let up = hash_map_updates_text (string_bytes c.in_ok-key.key) c.args.places.now c.insert.new.self (Some c.push.new.self) c.in_ok-insert.ensures.updates in
     one_more c.args.places.now c.insert.new.self c.args.name.now c.push.new.self
-        (λ x. up x ∙ ap (λ y. update bytes_eq (get_by_text c.args.places.now) y (Some c.push.new.self) x) c.in_ok-key.ensures.ok) c.args.place
-        (c.in_ok-push.ensures.items ∙ ap (λ xs. xs ++ c.args.place ∷ []) (c.in_ok-first.ensures.items ∙ sym (ap listed c.requires)))
+    (λ x. up x ∙ ap (λ y. update bytes_eq (get_by_text c.args.places.now) y (Some c.push.new.self) x) c.in_ok-key.ensures.ok) c.args.place
+    (c.in_ok-push.ensures.items ∙ ap (λ xs. xs ++ c.args.place ∷ []) (c.in_ok-first.ensures.items ∙ sym (ap listed c.requires)))

@@ -16,4 +16,4 @@ returns-in_ok-push-clause-ok c =
     let n = c.get_mut.follows.lender c.push.new.self in
     let up = hash_map_updates_text c.args.name.now c.args.places.now n (Some c.push.new.self) ((c.get_mut.follows.holds c.push.new.self).3 (search rules)) in
     one_more c.args.places.now n c.args.name.now c.push.new.self up c.args.place
-        (c.in_ok-push.ensures.items ∙ ap (λ xs. xs ++ c.args.place ∷ []) (ap listed c.in-Some.ensures.value))
+    (c.in_ok-push.ensures.items ∙ ap (λ xs. xs ++ c.args.place ∷ []) (ap listed c.in-Some.ensures.value))

@@ -15,4 +15,4 @@ pub returns-clause-tied : goal.returns-clause-tied
 returns-clause-tied c =
     let t = rw (c.in-Some.ensures.items, c.in-Some-pop.ensures.items) at c.requires.tied in
     ties_less c.pop.new.self.items c.pop-2.new.self.items c.args.innermost.now c.put_back.new.innermost c.in-Some.last c.in-Some-pop.before t
-        (λ x. c.put_back.ensures x ∙ ap (λ y. update bytes_eq (get_by_text c.args.innermost.now) y (Some c.in-Some-pop.before) x) c.as_str.ensures)
+    (λ x. c.put_back.ensures x ∙ ap (λ y. update bytes_eq (get_by_text c.args.innermost.now) y (Some c.in-Some-pop.before) x) c.as_str.ensures)

@@ -14,7 +14,7 @@ pub returns-in_err-found : goal.returns-in_err-found
 returns-in_err-found c =
     let all = c.members-members.ensures.members ∙ ap (members_of c.args.graph.now) c.class_of.ensures.class in
     let at = subst (λ (ms : List Member). slice_get ms c.loop-k.k ≡ Some c.index-members-k.result) all
-        (read_place c.members-members.result.now c.loop-k.k c.index-members-k.result c.loop-k-test.true c.index-members-k.is).0 in
+    (read_place c.members-members.result.now c.loop-k.k c.index-members-k.result c.loop-k-test.true c.index-members-k.is).0 in
     let p = err_from_is_err_and c.from_residual-in_err-found.result c.from_residual-in_err-found.ensures.1 in
     rw (p.1, p.2) (lacks_in c.args.graph.now c.args.d c.args.n c.loop-k.k (line_of c.loop-k.row) c.index-members-k.result c.in_err-found.field-0.0 c.requires.node c.loop-k.invariant.line at c.in_err-found.ensures)
 
@@ -28,7 +28,7 @@ pub loop-k-preserved : goal.loop-k-preserved
 loop-k-preserved c =
     let all = c.members-members.ensures.members ∙ ap (members_of c.args.graph.now) c.class_of.ensures.class in
     let at = subst (λ (ms : List Member). slice_get ms c.loop-k.k ≡ Some c.index-members-k.result) all
-        (read_place c.members-members.result.now c.loop-k.k c.index-members-k.result c.loop-k-test.true c.index-members-k.is).0 in
+    (read_place c.members-members.result.now c.loop-k.k c.index-members-k.result c.loop-k-test.true c.index-members-k.is).0 in
     record {
       low = let l = c.loop-k-test.true in omega arith;
       line = subst (IsLineOf c.args.graph.now c.args.d c.args.n (c.loop-k.k + 1)) (sym c.in_ok-add_found.ensures)

@@ -37,4 +37,4 @@ returns c =
     let l = named_low c.args.self.now c.args.name.now c.places-places.result.now c.args.i c.places-places.ensures low in
     let is = c.index.ensures ∙ ap (λ xs. get_or xs place c.index.result.now) c.self.view_is in
     sym (named_at c.args.self.now c.args.name.now c.places-places.result.now c.args.i c.places-places.ensures low)
-        ∙ slice_get_read c.args.self.now (length c.args.self.now) place c.index.result.now refl l is
+    ∙ slice_get_read c.args.self.now (length c.args.self.now) place c.index.result.now refl l is

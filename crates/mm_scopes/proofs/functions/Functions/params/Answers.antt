@@ -18,9 +18,9 @@ loop-place-preserved c =
     let all = map params_of (named c.args.name.now c.args.self.now) in
     let is = c.index.ensures ∙ ap (λ xs. get_or xs place c.index.result.now) c.self.view_is in
     ap (map (λ ps. ps.now)) c.in_ok-push.ensures.items ∙ map-append (λ ps. ps.now) c.loop-place.all.items (c.as_slice.result ∷ [])
-        ∙ ap (λ ys. ys ++ c.as_slice.result.now ∷ []) c.loop-place.invariant
-        ∙ ap (λ ps. take c.loop-place.place-index all ++ ps ∷ []) c.as_slice.ensures
-        ∙ params_more c.args.self.now c.args.name.now c.places-places.result.now c.loop-place.place-index c.index.result.now c.places-places.ensures c.loop-place-test.true is
+    ∙ ap (λ ys. ys ++ c.as_slice.result.now ∷ []) c.loop-place.invariant
+    ∙ ap (λ ps. take c.loop-place.place-index all ++ ps ∷ []) c.as_slice.ensures
+    ∙ params_more c.args.self.now c.args.name.now c.places-places.result.now c.loop-place.place-index c.index.result.now c.places-places.ensures c.loop-place-test.true is
 
 pub returns : goal.returns
 returns c = c.loop-place.invariant ∙ params_all c.args.self.now c.args.name.now c.places-places.result.now c.loop-place.place-index c.places-places.ensures c.loop-place-test.false
