@@ -40,7 +40,8 @@ starts p l no_way = stuck
 abbrev pub back : {A : Type 0} → Level → Run Stop State A → Run Stop Store A
 back l = within (store_of l)
 
--- What follows when the pieces are done after a run in a frame whose function has this result and may be inline.
+-- What follows when the pieces are done after a run in a frame whose function has this result and
+-- may be inline.
 abbrev pub follows : Program → Option CKind → Bool → List Piece → Run Stop Store Flow → Run Stop State (Option CValue)
 follows p r i [] q = end_of r q
 follows p r i (rest c ∷ ps) q = follows p r i ps ((then) q (λ flow. unless_left flow (flows_of (around p i) c)))
@@ -114,13 +115,15 @@ IsCalled p s st t f = callee_in (around p s.level.is_inline) (store_of s.level s
 abbrev pub IsFound : Program → Core → State → Target → Option Callee → Type 0
 IsFound p s st t f = callee_in (around p s.level.is_inline) (store_of s.level st) t ≡ f
 
--- the core of a machine behind the entry of a function, which is stuck where the arguments are too few or too many
+-- the core of a machine behind the entry of a function, which is stuck where the arguments are too
+-- few or too many
 abbrev pub IsInto : Core → Option Local → Code → List CValue → Function → Core → Type 0
 IsInto s x c vs f s' =
     ((length vs ≡ length f.params) × (s' ≡ entered s x c (fitted_all f.params vs) f.slots f.result f.is_inline f.body))
     ⊎ ((length vs ≢ length f.params) × (s' ≡ with_at s no_way))
 
--- what a call of a function of the program makes of a core: an inline one is entered without a step, and not from another
+-- what a call of a function of the program makes of a core: an inline one is entered without a
+-- step, and not from another
 abbrev pub Entered : Went → Core → Option Local → Code → List CValue → Function → Core → Type 0
 Entered went.On s x c vs f s' = (f.is_inline ≡ true) × (s.level.is_inline ≡ false) × IsInto s x c vs f s'
 Entered went.Stepped s x c vs f s' = (f.is_inline ≡ false) × IsInto s x c vs f s'

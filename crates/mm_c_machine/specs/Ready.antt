@@ -19,8 +19,8 @@ pub record IsReadyCore (s : Core) : Type 0 where
   pub here : IsInAt (length s.level.values) s.at
   pub after : AreReady (length s.level.values) s.pieces
 
--- What is left to do within a step. A loop and the call of a function that isn't inline take one, so what is behind
--- them doesn't count; b is a bound on what the body of an inline function does.
+-- What is left to do within a step. A loop and the call of a function that isn't inline take one,
+-- so what is behind them doesn't count; b is a bound on what the body of an inline function does.
 abbrev mutual
   pub size_of : ℕ → Stmt → ℕ
   size_of b (locals xs) = 1

@@ -39,7 +39,8 @@ end_by ending.Stuck = end.Stuck
 abbrev pub level_in : Function → Level
 level_in f = record { values = replicate f.slots (Int (pos 0)); result = f.result; is_inline = f.is_inline }
 
--- the machine behind the entry of a function without arguments, which is stuck where it has parameters
+-- the machine behind the entry of a function without arguments, which is stuck where it has
+-- parameters
 abbrev pub IsFirst : Function → Core → Type 0
 IsFirst f s =
     ((f.params ≡ []) × (s ≡ record { at = code f.body; level = level_in f; pieces = [] }))

@@ -1,4 +1,5 @@
--- What a machine stands for: the code in hand, the frame of the function that runs, and what is done after the code.
+-- What a machine stands for: the code in hand, the frame of the function that runs, and what is
+-- done after the code.
 use Rattle.std.specs.Prelude.{ℕ, ◌-◌, Bool, List, [], ◌∷◌, ◌++◌, reverse, length, take, drop, set, replicate, Option, pos}
 use Rattle.mm_c.specs.declared.value.CValue.{CValue}
 use Rattle.mm_c.specs.declared.value.CValue.TheVariants.{Int}
@@ -23,7 +24,8 @@ pub record Level : Type 0 where
   pub result : Option CKind
   pub is_inline : Bool
 
--- What is done after the code in hand: the rest of a block, a loop once more, or the function that called goes on.
+-- What is done after the code in hand: the rest of a block, a loop once more, or the function that
+-- called goes on.
 pub data Piece : Type 0 where
   rest : Code → Piece
   loop : Code → Piece

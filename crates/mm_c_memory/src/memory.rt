@@ -1,5 +1,5 @@
-// Blocks of cells. A cell begins at an even offset and has 2, 4 or 8 bytes, so a block is held as its halves: two
-// bytes each, with the value whose cell begins there.
+// Blocks of cells. A cell begins at an even offset and has 2, 4 or 8 bytes, so a block is held as
+// its halves: two bytes each, with the value whose cell begins there.
 
 ghost use Rattle.std.specs.Prelude.{◌≡◌, ◌↔◌, ℕ, ◌+◌, ◌*◌, ◌/◌, ◌^◌, ◌<◌, ◌≤◌, Bool, true, List, [], ◌∷◌, ◌++◌, length, slice_get, Option, IfOk, OnErr};
 ghost use Rattle.std.specs.Option.{option_map};
@@ -145,7 +145,8 @@ impl Block {
         }
     }
 
-    /// Stores a value in the cell at an offset, and says whether a cell of the kind may stand there.
+    /// Stores a value in the cell at an offset, and says whether a cell of the kind may stand
+    /// there.
     fn store(&mut self, kind: CCell, offset: usize, value: CValue) -> bool
         requires { offset < 2 ^ 33 }
         ensures { (b : c.Block) → HoldsBlock b self.old → StoresIn result b kind offset value self.new }

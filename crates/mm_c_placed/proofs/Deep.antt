@@ -1,5 +1,5 @@
--- The clock left is at most the clock given, and calls of more functions inside one another than the clock allows, and
--- more turns than it allows, change nothing.
+-- The clock left is at most the clock given, and calls of more functions inside one another than
+-- the clock allows, and more turns than it allows, change nothing.
 use Rattle.std.specs.Prelude.{pos, negsuc, Bool, true, false, map, slice_get}
 use Rattle.std.proofs.Common.{◌≡◌, ℕ, zero, suc, ◌≤◌, List, [], Option, Some, None, refl, ap, ◌∙◌, arith}
 use Rattle.mm_meaning.specs.Run.{Run, Gives, Stops, ◌>>=◌, then}

@@ -1,5 +1,6 @@
--- What a C program with places does: the meaning of the crate of C's trees, over frames in which a local is found by
--- its place. Values, operators, the memory and the prelude's functions are those of that meaning.
+-- What a C program with places does: the meaning of the crate of C's trees, over frames in which a
+-- local is found by its place. Values, operators, the memory and the prelude's functions are those
+-- of that meaning.
 use Rattle.std.specs.Prelude.{ℕ, zero, suc, ℤ, pos, negsuc, Bool, true, false, List, [], ◌∷◌, map, get_or, Option, Some, None, if◌then◌else◌, nat_eq, slice_get}
 use Rattle.mm_meaning.specs.Run.{Run, Gives, Stops, ◌>>=◌, pure, stop, step, within, clocked}
 use Rattle.mm_c.specs.declared.value.CCell.{CCell}
@@ -94,7 +95,8 @@ set_place x v s k = Gives tt (record { frame = with_place s.frame x.place (fitte
 abbrev pub zero_all : List Local → From Store (Unit {0})
 zero_all xs s k = Gives tt (record { frame = zeroed xs s.frame; state = s.state }) k
 
--- What is done with the result of a call. Where a local waits for one, a function without a result is stuck.
+-- What is done with the result of a call. Where a local waits for one, a function without a result
+-- is stuck.
 abbrev pub receive : Option Local → Option CValue → From Store (Unit {0})
 receive None r = pure tt
 receive (Some x) r = do
@@ -248,7 +250,8 @@ around_of p calls = record {
 abbrev pub Steps : Type 0
 Steps = Function → List CValue → From State (Option CValue)
 
--- A call, by what is done at one of the program's functions. A number that no function has is stuck.
+-- A call, by what is done at one of the program's functions. A number that no function has is
+-- stuck.
 abbrev pub at_function : Steps → Option Function → List CValue → From State (Option CValue)
 at_function enters None vs = stuck
 at_function enters (Some f) vs = enters f vs
@@ -281,7 +284,8 @@ abbrev pub around_in : Program → Steps → Bool → Around
 around_in p steps true = around_of p (plain_calls p steps)
 around_in p steps false = around_all p steps
 
--- Calls of at most n functions that aren't inline inside one another. The entry of such a function is a step.
+-- Calls of at most n functions that aren't inline inside one another. The entry of such a function
+-- is a step.
 abbrev pub steps_of : Program → ℕ → Steps
 steps_of p zero f vs = stop Spent
 steps_of p (suc n) f vs = step Spent (enter (around_all p (steps_of p n)) f vs)

@@ -1,4 +1,5 @@
--- Each place that a function's body names is one of its slots. A machine may then find it without a look at a length.
+-- Each place that a function's body names is one of its slots. A machine may then find it without
+-- a look at a length.
 use Rattle.std.specs.Prelude.{ℕ, ◌<◌, List, Option, Some, None, All}
 use Rattle.mm_c_placed.specs.declared.tree.Operand.{Operand}
 use Rattle.mm_c_placed.specs.declared.tree.Operand.TheVariants.{Place, Value}

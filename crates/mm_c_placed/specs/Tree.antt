@@ -1,5 +1,5 @@
--- The trees of C programs with places, as plain data. Operands, right sides, targets and locals are the Rust types
--- themselves, as only statements refer to themselves.
+-- The trees of C programs with places, as plain data. Operands, right sides, targets and locals
+-- are the Rust types themselves, as only statements refer to themselves.
 use Rattle.std.specs.Prelude.{ℕ, Bool, List, [], ◌∷◌, Option}
 use Rattle.mm_c.specs.declared.value.CCell.{CCell}
 use Rattle.mm_c.specs.declared.tree.CKind.{CKind}
