@@ -9,21 +9,22 @@ ghost use Rattle.mm_c.specs.Tree as tree;
 ghost use Rattle.mm_c.specs.Tree.{◌⨾◌};
 ghost use Rattle.mm_c.specs.View.{block_view, code_view, function_view};
 ghost use Rattle.mm_simulate.specs.Lowered as lowered;
-ghost use Rattle.mm_lower.specs.Scopes.{around_of, no_layout, program_of};
+ghost use Rattle.mm_lower_trees.specs.Scopes.{around_of, no_layout, program_of};
 ghost use Rattle.mm_lower.specs.Needed.{needed};
 ghost use Rattle.mm_lower.specs.Written as written;
 ghost use Rattle.mm_lower.specs.Written.{IsWritable};
 
-use crate::callee::name_of;
 use crate::head::{argument_types, is_main, kind_of_result, local_types, locals_from, variables};
-use crate::name::plain;
-use crate::scope::Scope;
-use crate::stmt::lower_stmt;
 use crate::temporary::note_code;
-use crate::write::trap;
 use mm_c::tree::{CBlock, CFn, CLinkage, CLocal, CProto, CStmt};
 use mm_classes::class::Ty;
 use mm_core::tree::{CoreFn, CoreStmt};
+use mm_lower_trees::callee::name_of;
+use mm_lower_trees::name::plain;
+use mm_lower_trees::node::zero_of;
+use mm_lower_trees::scope::Scope;
+use mm_lower_trees::stmt::lower_stmt;
+use mm_lower_trees::write::trap;
 use sqlite_items::Items;
 use std::alloc::{AllocError, Global};
 
@@ -37,7 +38,8 @@ fn end(alloc: Global, code: &mut Items<CStmt>, function: &CoreFn) -> Result<(), 
             if is_main(function) {
                 code.push(CStmt::ReturnValue(plain(0)))
             } else {
-                trap(alloc, code, 5)
+                trap(alloc, code, 5)?;
+                code.push(CStmt::ReturnValue(zero_of(&function.result)))
             }
         }
     }

@@ -34,7 +34,7 @@ use Rattle.mm_agree.proofs.Values.{fitted_same, kind_fits, fits_stands}
 use Rattle.mm_agree.proofs.Steps.{SameWorld, flows-⨾, agree_on}
 use Rattle.mm_simulate.specs.Names.{Place, temporary, named}
 use Rattle.mm_simulate.specs.Names as name
-use Rattle.mm_simulate.specs.Lowered.{v_, i_, kind_of_result, locals_from, ending, temporary_local, lowered_stmt, lowered_fn, IsLoweredStmt}
+use Rattle.mm_simulate.specs.Lowered.{v_, i_, kind_of_result, locals_from, zero_atom, ending, temporary_local, lowered_stmt, lowered_fn, IsLoweredStmt}
 use Rattle.mm_simulate.proofs.Names.{same, changed, at_name, at_other, kept, int_name}
 use Rattle.mm_simulate.proofs.Stores.{Frame, g, c_value, Stores}
 use Rattle.mm_simulate.proofs.Operators.{trap_stops}
@@ -212,11 +212,11 @@ module _ (m : Frame) (around' : c.Around) (has : HasPrelude around') where
   fell ty.Unsigned true s u k e h = let z = e refl in cc
   fell (ty.Ptr d) true s u k e h = let z = e refl in cc
   fell (ty.Ref d) true s u k e h = let z = e refl in cc
-  fell ty.Int false s u k e h = rw (trap_stops around' has 5 tree.done u k refl) (both_stop h.states.world)
-  fell ty.Bool false s u k e h = rw (trap_stops around' has 5 tree.done u k refl) (both_stop h.states.world)
-  fell ty.Unsigned false s u k e h = rw (trap_stops around' has 5 tree.done u k refl) (both_stop h.states.world)
-  fell (ty.Ptr d) false s u k e h = rw (pointer_type d) (rw (trap_stops around' has 5 tree.done u k refl) (both_stop h.states.world))
-  fell (ty.Ref d) false s u k e h = rw (reference_type d) (rw (trap_stops around' has 5 tree.done u k refl) (both_stop h.states.world))
+  fell ty.Int false s u k e h = rw (trap_stops around' has 5 (tree.just (tree.return (zero_atom ty.Int))) u k refl) (both_stop h.states.world)
+  fell ty.Bool false s u k e h = rw (trap_stops around' has 5 (tree.just (tree.return (zero_atom ty.Bool))) u k refl) (both_stop h.states.world)
+  fell ty.Unsigned false s u k e h = rw (trap_stops around' has 5 (tree.just (tree.return (zero_atom ty.Unsigned))) u k refl) (both_stop h.states.world)
+  fell (ty.Ptr d) false s u k e h = rw (pointer_type d) (rw (trap_stops around' has 5 (tree.just (tree.return (zero_atom (ty.Ptr d)))) u k refl) (both_stop h.states.world))
+  fell (ty.Ref d) false s u k e h = rw (reference_type d) (rw (trap_stops around' has 5 (tree.just (tree.return (zero_atom (ty.Ref d)))) u k refl) (both_stop h.states.world))
 
 module _ (p : Program) (callable : Function → Bool) (l : Layout) (name_of : ℕ → List ℕ) where
   abbrev pub frame_of : Function → Frame

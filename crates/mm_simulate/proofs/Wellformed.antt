@@ -24,7 +24,7 @@ use Rattle.mm_c.proofs.Bools.{both}
 use Rattle.mm_c.proofs.Fits.{Fit, fit_then, fit_done, fit_return, none_append}
 use Rattle.mm_agree.specs.Agree.{Layout, kind_of}
 use Rattle.mm_simulate.specs.Names.{Place, local, temporary, named, function_named}
-use Rattle.mm_simulate.specs.Lowered.{v_, kind_of_result, locals_from, temporary_local, temporaries, ending, lowered_stmt, reach_stmt, nesting_stmt, Defined, is_defined, source_name, name_of, fn_of, item_of, head_of, entry, others, lowered_program}
+use Rattle.mm_simulate.specs.Lowered.{v_, kind_of_result, locals_from, temporary_local, temporaries, trap_code, ending, lowered_stmt, reach_stmt, nesting_stmt, Defined, is_defined, source_name, name_of, fn_of, item_of, head_of, entry, others, lowered_program}
 use Rattle.mm_simulate.specs.Temporaries.{names_in}
 use Rattle.mm_simulate.specs.Simulates.{IsScalar, IsShallow, DeclareTheirs}
 use Rattle.mm_simulate.proofs.Names.{is_false, function_name}
@@ -245,11 +245,11 @@ module _ (p : Program) (l : Layout) (temps : ℕ → List (CKind × ℕ)) (scala
       ending_fits ty.Unsigned true e h r trap = let z = e refl in cc
       ending_fits (ty.Ptr c) true e h r trap = let z = e refl in cc
       ending_fits (ty.Ref c) true e h r trap = let z = e refl in cc
-      ending_fits ty.Bool false e h r trap = fit_trap h trap 5 refl
-      ending_fits ty.Int false e h r trap = fit_trap h trap 5 refl
-      ending_fits ty.Unsigned false e h r trap = fit_trap h trap 5 refl
-      ending_fits (ty.Ptr c) false e h r trap = fit_trap h trap 5 refl
-      ending_fits (ty.Ref c) false e h r trap = fit_trap h trap 5 refl
+      ending_fits ty.Bool false e h r trap = fit_then h (trap_code 5) _ (fit_trap h trap 5 refl) (fit_return h Int _ r refl)
+      ending_fits ty.Int false e h r trap = fit_then h (trap_code 5) _ (fit_trap h trap 5 refl) (fit_return h Int _ r refl)
+      ending_fits ty.Unsigned false e h r trap = fit_then h (trap_code 5) _ (fit_trap h trap 5 refl) (fit_return h Unsigned _ r refl)
+      ending_fits (ty.Ptr c) false e h r trap = fit_then h (trap_code 5) _ (fit_trap h trap 5 refl) (fit_return h Pointer _ r refl)
+      ending_fits (ty.Ref c) false e h r trap = fit_then h (trap_code 5) _ (fit_trap h trap 5 refl) (fit_return h Pointer _ r refl)
 
       pub inner_fits : list_any is_true (code_breaks here (code ⨾ ending d.function.result (is_main d.function))) ≡ false
       inner_fits = (fit_then here code (ending d.function.result (is_main d.function)) body_fits (ending_fits d.function.result (is_main d.function) (λ e. (main_is d.function e).result) here refl prel.trap)).by

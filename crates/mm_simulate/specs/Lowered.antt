@@ -185,7 +185,7 @@ operator t op other result = on_int op (i_ t) (i_ (suc t)) (i_ (suc (suc t))) (o
 
 -- ---- other nodes
 
--- the zero of a kind
+-- the zero of a type, or null
 abbrev pub zero_atom : Ty → CAtom
 zero_atom ty.Unsigned = word 0
 zero_atom other = plain 0
@@ -406,11 +406,12 @@ abbrev pub locals_from : ℕ → List Ty → List CLocal
 locals_from x [] = []
 locals_from x (t ∷ ts) = record { kind = kind_of t; name = v_ x } ∷ locals_from (suc x) ts
 
--- behind the body's end
+-- Behind the body's end. What follows the trap never runs: it tells a C compiler, which doesn't know
+-- that the trap won't return, that every path gives a value.
 abbrev pub ending : Ty → Bool → Code
 ending ty.Void main = done
 ending result true = just (c.return (plain 0))
-ending result false = trap_code 5
+ending result false = trap_code 5 ⨾ just (c.return (zero_atom result))
 
 -- a temporary as a local
 abbrev pub temporary_local : CKind × ℕ → CLocal

@@ -17,7 +17,7 @@ use mm_base::writing::{WriteEnd, put_all};
 use mm_c_print::print;
 use mm_check_unit::first::main_function;
 use mm_core::tree::CoreFn;
-use mm_lower::program::lower_program;
+use mm_emit::program::lower_program;
 use mm_parse_expr::ParseEnd;
 use mm_parse_unit::unit;
 use mm_syntax::decl::Unit;

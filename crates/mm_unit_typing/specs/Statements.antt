@@ -121,6 +121,20 @@ module _ (env : Environment) where
   StepFaults vs None = λ f. ⊥
   StepFaults vs (Some e) = Faults (inside env vs) e
 
+  -- the loop of a `for`, whose body is typed so
+  abbrev pub LoopTypes : List Var → Option Expr → Option Expr → (Made (List k.Stmt) → Type 0) → Made k.Stmt → Type 0
+  LoopTypes vs c s IsBody =
+      Then (TestTypes vs c) λ test.
+      Then (StepTypes vs s) λ step.
+      Then IsBody λ x v.
+      made (k.for_do test step (stmts_of x.tree)) x.locals ≡ v
+
+  abbrev pub LoopFaults : List Var → Option Expr → Option Expr → (Fault → Type 0) → Fault → Type 0
+  LoopFaults vs c s BodyFaults =
+      First (TestTypes vs c) (TestFaults vs c) λ test.
+      First (StepTypes vs s) (StepFaults vs s) λ step.
+      BodyFaults
+
   -- ---- statements
 
   -- Typed as a list of statements: those of the block that it is, or those that stand where it stands. Each statement
@@ -150,10 +164,9 @@ module _ (env : Environment) where
         made (k.do_while (stmts_of x.tree) c ∷ []) x.locals ≡ v
     StmtTypes here vs locals (for_do p start c s a) =
         Then (StartTypes (within here vs) vs locals start) λ first.
-        Then (TestTypes (behind_start vs locals start) c) λ test.
-        Then (StepTypes (behind_start vs locals start) s) λ step.
-        Then (StmtTypes (turn_within here (behind_start vs locals start)) (behind_start vs locals start) first.locals a) λ x v.
-        made (first.tree ++ k.for_do test step (stmts_of x.tree) ∷ []) x.locals ≡ v
+        Then (LoopTypes (behind_start vs locals start) c s
+            (StmtTypes (turn_within here (behind_start vs locals start)) (behind_start vs locals start) first.locals a)) λ loop v.
+        made (first.tree ++ loop.tree ∷ []) loop.locals ≡ v
     StmtTypes here vs locals (break p) = Then (Met here.in_loop) λ u v. made (k.break ∷ []) locals ≡ v
     StmtTypes here vs locals (continue p) = Then (Met here.in_loop) λ u v. made (k.continue ∷ []) locals ≡ v
     StmtTypes here vs locals (return_nothing p) =
@@ -193,9 +206,8 @@ module _ (env : Environment) where
         FaultsAs (inside env vs) ty.Bool e
     StmtFaults here vs locals (for_do p start c s a) =
         First (StartTypes (within here vs) vs locals start) (StartFaults (within here vs) vs locals start) λ first.
-        First (TestTypes (behind_start vs locals start) c) (TestFaults (behind_start vs locals start) c) λ test.
-        First (StepTypes (behind_start vs locals start) s) (StepFaults (behind_start vs locals start) s) λ step.
-        StmtFaults (turn_within here (behind_start vs locals start)) (behind_start vs locals start) first.locals a
+        LoopFaults (behind_start vs locals start) c s
+            (StmtFaults (turn_within here (behind_start vs locals start)) (behind_start vs locals start) first.locals a)
     StmtFaults here vs locals (break p) = Unmet here.in_loop (at S13 p (codes "break"))
     StmtFaults here vs locals (continue p) = Unmet here.in_loop (at S13 p (codes "continue"))
     StmtFaults here vs locals (return_nothing p) = Unmet (is_void here.result) (at S14 p (codes "return"))
