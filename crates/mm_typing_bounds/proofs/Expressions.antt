@@ -220,8 +220,8 @@ unary_bounded : (o : UnaryOperator) (n : ℕ) (x v : Typed) → 1 ≤ n → Unar
 unary_bounded unary.Plus n x v le h i = subst (B (1 + n)) h.2 (plus_bounded n (converted (promoted x.ty) x) (converted_within n (promoted x.ty) x i))
 unary_bounded unary.Minus n x v le h i = subst (B (1 + n)) h.2
     (minus_bounded n (converted (common (promoted x.ty) x.ty) (typed (zero_of (promoted x.ty)) (promoted x.ty))) (converted (common (promoted x.ty) x.ty) x) le
-      (converted_within 1 (common (promoted x.ty) x.ty) (typed (zero_of (promoted x.ty)) (promoted x.ty)) (zero_bounded (promoted x.ty)))
-      (converted_within n (common (promoted x.ty) x.ty) x i))
+    (converted_within 1 (common (promoted x.ty) x.ty) (typed (zero_of (promoted x.ty)) (promoted x.ty)) (zero_bounded (promoted x.ty)))
+    (converted_within n (common (promoted x.ty) x.ty) x i))
 unary_bounded unary.Not n x v le h i = subst (B (1 + n)) h.2 (negation_bounded n (converted ty.Bool x) (converted_within n ty.Bool x i))
 unary_bounded unary.Indirection n x v le h i = absurd h
 unary_bounded unary.AddressOf n x v le h i = absurd h
@@ -278,7 +278,7 @@ module _ (env : Environment) where
   calls_bounded m es None xs v h a = absurd h
   calls_bounded m es (Some cs) xs v h a = subst (B (1 + m + sizes es)) h.2.1.1
       (larger (1 + sizes es) (1 + m + sizes es) (call_in h.1 (converted_all (params_in h.1) xs)) (omega arith)
-        (call_bounded (sizes es) h.1 (converted_all (params_in h.1) xs) (args_bounded (params_in h.1) es xs a)))
+      (call_bounded (sizes es) h.1 (converted_all (params_in h.1) xs) (args_bounded (params_in h.1) es xs a)))
 
   mutual
     pub bounded : (e : t.Expr) (v : Typed) → Types env e v → IsBounded (size e) v.core
@@ -296,9 +296,9 @@ module _ (env : Environment) where
         let y = bounded b h.2.0 h.2.1 in
         let z = bounded d h.2.2.0 h.2.2.1 in
         subst (B (1 + size c + size b + size d)) h.2.2.2.2.2
-          (choose_bounded (size b) (size d) (converted (joined h.2.0.ty h.2.2.0.ty) h.2.0) (converted (joined h.2.0.ty h.2.2.0.ty) h.2.2.0)
-            (converted_within (size b) (joined h.2.0.ty h.2.2.0.ty) h.2.0 y) (converted_within (size d) (joined h.2.0.ty h.2.2.0.ty) h.2.2.0 z)
-            (size c) (converted ty.Bool h.0) (converted_within (size c) ty.Bool h.0 x))
+        (choose_bounded (size b) (size d) (converted (joined h.2.0.ty h.2.2.0.ty) h.2.0) (converted (joined h.2.0.ty h.2.2.0.ty) h.2.2.0)
+        (converted_within (size b) (joined h.2.0.ty h.2.2.0.ty) h.2.0 y) (converted_within (size d) (joined h.2.0.ty h.2.2.0.ty) h.2.2.0 z)
+        (size c) (converted ty.Bool h.0) (converted_within (size c) ty.Bool h.0 x))
     bounded (t.assign p b o at d) v h = assign_bounded (assignment_of o) (size b) (size d) h.0 h.2.0 v (some b) (some d) h.2.2 (bounded d h.2.0 h.2.1)
     bounded (t.new p class) v h = absurd h
     bounded (t.make p class es) v h = absurd h
