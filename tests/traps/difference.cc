@@ -1,0 +1,5 @@
+// > trap 1
+int main() {
+  int least = -2147483647 - 1;
+  return least - 1;
+}

@@ -1,0 +1,5 @@
+// > trap 2
+int main() {
+  int zero = 0;
+  return 5 / zero;
+}

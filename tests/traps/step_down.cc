@@ -1,0 +1,7 @@
+// > trap 1
+int main() {
+  int n = -2147483647;
+  n--;
+  n--;
+  return n;
+}
