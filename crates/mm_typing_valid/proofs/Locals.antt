@@ -104,9 +104,11 @@ module _ (env : Environment) where
     stmt_extends here vs locals (syntax.while_do p e a) v h = subst (λ (w : Made (List k.Stmt)). Begins locals w.locals) h.2.2 (stmt_extends (turn_within here vs) vs locals a h.2.0 h.2.1)
     stmt_extends here vs locals (syntax.do_while p a e) v h = subst (λ (w : Made (List k.Stmt)). Begins locals w.locals) h.2.2 (stmt_extends (turn_within here vs) vs locals a h.0 h.1)
     stmt_extends here vs locals (syntax.for_do p start c s a) v h =
+        let g = h.2.1.2.2 in
         let x = start_extends (within here vs) vs locals start h.0 h.1 in
-        let y = stmt_extends (turn_within here (behind_start vs locals start)) (behind_start vs locals start) h.0.locals a h.2.2.2.0 h.2.2.2.1 in
-        subst (λ (w : Made (List k.Stmt)). Begins locals w.locals) h.2.2.2.2 (further locals h.0.locals h.2.2.2.0.locals x y)
+        let y = stmt_extends (turn_within here (behind_start vs locals start)) (behind_start vs locals start) h.0.locals a g.0 g.1 in
+        let z = subst (λ (w : Made k.Stmt). Begins locals w.locals) g.2 (further locals h.0.locals g.0.locals x y) in
+        subst (λ (w : Made (List k.Stmt)). Begins locals w.locals) h.2.2 z
     stmt_extends here vs locals (syntax.break p) v h = subst (λ (w : Made (List k.Stmt)). Begins locals w.locals) h.2 (itself locals)
     stmt_extends here vs locals (syntax.continue p) v h = subst (λ (w : Made (List k.Stmt)). Begins locals w.locals) h.2 (itself locals)
     stmt_extends here vs locals (syntax.return_nothing p) v h = subst (λ (w : Made (List k.Stmt)). Begins locals w.locals) h.2 (itself locals)
