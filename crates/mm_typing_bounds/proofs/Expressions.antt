@@ -1,13 +1,12 @@
 -- How large the checked tree of a typed expression is.
-use Rattle.std.proofs.Common.{◌≡◌, ℕ, ◌+◌, ◌*◌, ◌<◌, ◌≤◌, max, List, [], ◌∷◌, refl, sym, subst, ap, ◌∙◌, inl, inr, arith}
-use Rattle.std.specs.Prelude.{Bool, true, false, ◌&&◌, ◌||◌, if◌then◌else◌, Option, Some, None, pos, nat_eq, slice_get}
+use Rattle.std.proofs.Common.{◌≡◌, ℕ, ◌+◌, ◌*◌, ◌≤◌, List, [], ◌∷◌, refl, subst, arith}
+use Rattle.std.specs.Prelude.{Bool, true, false, if◌then◌else◌, Option, Some, None, nat_eq}
 use Rattle.std.specs.List.{list_any}
 use Rattle.mm_base.specs.Num.{to_int}
 use Rattle.mm_classes.specs.declared.class.Ty.{Ty}
 use Rattle.mm_classes.specs.declared.class.Ty.TheVariants as ty
 use Rattle.mm_core.specs.declared.part.Operator.{Operator}
 use Rattle.mm_core.specs.declared.part.Operator.TheVariants as op
-use Rattle.mm_core.specs.declared.part.Target.TheVariants as target
 use Rattle.mm_core.specs.Heads.{same_type}
 use Rattle.mm_core.specs.Tree as k
 use Rattle.mm_core.specs.View.{exprs_of}
@@ -18,7 +17,6 @@ use Rattle.mm_scopes.specs.declared.head.FnHead.{FnHead}
 use Rattle.mm_syntax.specs.declared.name.Number.{Number}
 use Rattle.mm_syntax.specs.declared.name.UnaryOperator.{UnaryOperator}
 use Rattle.mm_syntax.specs.declared.name.UnaryOperator.TheVariants as unary
-use Rattle.mm_syntax.specs.declared.name.StepOperator.{StepOperator}
 use Rattle.mm_syntax.specs.Numbers.{is_unsigned}
 use Rattle.mm_syntax.specs.Tree as t
 use Rattle.mm_typing.specs.declared.typed.Kind.TheVariants as kind
@@ -30,7 +28,7 @@ use Rattle.mm_typing.specs.Typed.{Typed, typed, number_typed}
 use Rattle.mm_typing.specs.Conversions.{common, joined, convert_to, converted, converted_all}
 use Rattle.mm_typing.specs.Operators.{operation_of, assignment_of, change_of, operated, promoted, zero_of, one, set, changed}
 use Rattle.mm_typing.specs.Calls.{Candidate, function, builtin, params_in, call_in, function_call}
-use Rattle.mm_typing.specs.Typing.{UnaryTypes, StepTypes, OperationTypes, ChooseTypes, AssignTypes, Changes, CallTypes, Types, AreTyped}
+use Rattle.mm_typing.specs.Typing.{UnaryTypes, OperationTypes, AssignTypes, Changes, CallTypes, Types, AreTyped}
 use Rattle.mm_typing_bounds.specs.Sizes.{size, sizes}
 use Rattle.mm_typing_bounds.specs.Bounded.{IsBounded, TypedIsBounded}
 
@@ -220,8 +218,8 @@ unary_bounded : (o : UnaryOperator) (n : ℕ) (x v : Typed) → 1 ≤ n → Unar
 unary_bounded unary.Plus n x v le h i = subst (B (1 + n)) h.2 (plus_bounded n (converted (promoted x.ty) x) (converted_within n (promoted x.ty) x i))
 unary_bounded unary.Minus n x v le h i = subst (B (1 + n)) h.2
     (minus_bounded n (converted (common (promoted x.ty) x.ty) (typed (zero_of (promoted x.ty)) (promoted x.ty))) (converted (common (promoted x.ty) x.ty) x) le
-      (converted_within 1 (common (promoted x.ty) x.ty) (typed (zero_of (promoted x.ty)) (promoted x.ty)) (zero_bounded (promoted x.ty)))
-      (converted_within n (common (promoted x.ty) x.ty) x i))
+    (converted_within 1 (common (promoted x.ty) x.ty) (typed (zero_of (promoted x.ty)) (promoted x.ty)) (zero_bounded (promoted x.ty)))
+    (converted_within n (common (promoted x.ty) x.ty) x i))
 unary_bounded unary.Not n x v le h i = subst (B (1 + n)) h.2 (negation_bounded n (converted ty.Bool x) (converted_within n ty.Bool x i))
 unary_bounded unary.Indirection n x v le h i = absurd h
 unary_bounded unary.AddressOf n x v le h i = absurd h
@@ -278,7 +276,7 @@ module _ (env : Environment) where
   calls_bounded m es None xs v h a = absurd h
   calls_bounded m es (Some cs) xs v h a = subst (B (1 + m + sizes es)) h.2.1.1
       (larger (1 + sizes es) (1 + m + sizes es) (call_in h.1 (converted_all (params_in h.1) xs)) (omega arith)
-        (call_bounded (sizes es) h.1 (converted_all (params_in h.1) xs) (args_bounded (params_in h.1) es xs a)))
+      (call_bounded (sizes es) h.1 (converted_all (params_in h.1) xs) (args_bounded (params_in h.1) es xs a)))
 
   mutual
     pub bounded : (e : t.Expr) (v : Typed) → Types env e v → IsBounded (size e) v.core
@@ -296,9 +294,9 @@ module _ (env : Environment) where
         let y = bounded b h.2.0 h.2.1 in
         let z = bounded d h.2.2.0 h.2.2.1 in
         subst (B (1 + size c + size b + size d)) h.2.2.2.2.2
-          (choose_bounded (size b) (size d) (converted (joined h.2.0.ty h.2.2.0.ty) h.2.0) (converted (joined h.2.0.ty h.2.2.0.ty) h.2.2.0)
-            (converted_within (size b) (joined h.2.0.ty h.2.2.0.ty) h.2.0 y) (converted_within (size d) (joined h.2.0.ty h.2.2.0.ty) h.2.2.0 z)
-            (size c) (converted ty.Bool h.0) (converted_within (size c) ty.Bool h.0 x))
+        (choose_bounded (size b) (size d) (converted (joined h.2.0.ty h.2.2.0.ty) h.2.0) (converted (joined h.2.0.ty h.2.2.0.ty) h.2.2.0)
+        (converted_within (size b) (joined h.2.0.ty h.2.2.0.ty) h.2.0 y) (converted_within (size d) (joined h.2.0.ty h.2.2.0.ty) h.2.2.0 z)
+        (size c) (converted ty.Bool h.0) (converted_within (size c) ty.Bool h.0 x))
     bounded (t.assign p b o at d) v h = assign_bounded (assignment_of o) (size b) (size d) h.0 h.2.0 v (some b) (some d) h.2.2 (bounded d h.2.0 h.2.1)
     bounded (t.new p class) v h = absurd h
     bounded (t.make p class es) v h = absurd h

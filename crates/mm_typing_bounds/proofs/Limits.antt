@@ -1,6 +1,6 @@
 -- A unit within the limits is small.
-use Rattle.std.proofs.Common.{◌≡◌, ℕ, ◌+◌, ◌<◌, ◌≤◌, max, List, [], ◌∷◌, ◌++◌, length, map, get_or, refl, sym, subst, ap, inl, inr, arith}
-use Rattle.std.specs.Prelude.{Bool, true, false, Option, Some, None, All}
+use Rattle.std.proofs.Common.{◌≡◌, ℕ, ◌+◌, ◌≤◌, List, [], ◌∷◌, ◌++◌, map, refl, sym, subst, arith}
+use Rattle.std.specs.Prelude.{Option, Some, None, All}
 use Rattle.std.specs.List.{flat_map}
 use Rattle.mm_base.specs.declared.place.Place.{Place}
 use Rattle.mm_base.specs.declared.limits.TheConstants.{MAX_TOKEN_RUN, MAX_NESTING}
@@ -28,7 +28,7 @@ use Rattle.mm_syntax.specs.declared.decl.Unit.{Unit as UnitInMemory}
 use Rattle.mm_syntax.specs.Limits as limits
 use Rattle.mm_syntax.specs.Limits.{listed_tokens, own_tokens, tokens_of, maybe, initializer_exprs, variables_exprs, start_exprs, stmt_exprs, exprs_of_stmt, most, stmt_depth, depth_of, fn_bodies, decl_functions, functions_of, bodies_of, IsWithinLimits}
 use Rattle.mm_syntax.specs.Tree as t
-use Rattle.mm_syntax.specs.View.{exprs_of, expr_step, kind_view, expr_view, maybe_view, initializer_view, declarator_view, start_view, return_view, stmts_of, stmt_step, stmt_kind_view, stmt_view, function_kind_view, function_view, decl_kind_view, decl_view, unit_view}
+use Rattle.mm_syntax.specs.View.{exprs_of, expr_step, kind_view, expr_view, maybe_view, initializer_view, declarator_view, start_view, return_view, stmts_of, stmt_step, stmt_kind_view, stmt_view, function_kind_view, decl_kind_view, decl_view}
 use Rattle.mm_typing_bounds.specs.Sizes.{size, sizes, InitializerIsShort, DeclaratorsAreShort, StartIsShort, MaybeShort, StmtIsShort, StmtsAreShort, levels, all_levels, FunctionIsSmall, DeclsAreSmall}
 use Rattle.mm_typing_bounds.specs.Bounded.{UnitIsSmall}
 
@@ -118,9 +118,10 @@ module _ (n : ℕ) where
 
   names_short : (xs : List Declarator) → AllShort (flat_map (λ x. initializer_exprs x.initializer) xs) → DeclaratorsAreShort n (map declarator_view xs)
   names_short [] g = tt
-  names_short (x ∷ xs) g =
-      (initial_short x.initializer (left (initializer_exprs x.initializer) (flat_map (λ x. initializer_exprs x.initializer) xs) g),
-      names_short xs (right (initializer_exprs x.initializer) (flat_map (λ x. initializer_exprs x.initializer) xs) g))
+  names_short (x ∷ xs) g = (
+    initial_short x.initializer (left (initializer_exprs x.initializer) (flat_map (λ x. initializer_exprs x.initializer) xs) g),
+    names_short xs (right (initializer_exprs x.initializer) (flat_map (λ x. initializer_exprs x.initializer) xs) g),
+  )
 
   start_short : (x : ForStart) → AllShort (start_exprs x) → StartIsShort n (start_view x)
   start_short start.Nothing g = tt
@@ -156,9 +157,10 @@ module _ (n : ℕ) where
 
   block_short : (es : List StmtProved) → AllShort (flat_map (λ x. x) (map exprs_of_stmt (map (λ e. e.0) es))) → StmtsAreShort n (stmts_of (map stmt_view (map (λ e. e.0) es)))
   block_short [] g = tt
-  block_short (e ∷ es) g =
-      (e.1.0 (left (exprs_of_stmt e.0) (flat_map (λ x. x) (map exprs_of_stmt (map (λ e. e.0) es))) g),
-      block_short es (right (exprs_of_stmt e.0) (flat_map (λ x. x) (map exprs_of_stmt (map (λ e. e.0) es))) g))
+  block_short (e ∷ es) g = (
+    e.1.0 (left (exprs_of_stmt e.0) (flat_map (λ x. x) (map exprs_of_stmt (map (λ e. e.0) es))) g),
+    block_short es (right (exprs_of_stmt e.0) (flat_map (λ x. x) (map exprs_of_stmt (map (λ e. e.0) es))) g),
+  )
 
   block_levels : (es : List StmtProved) → all_levels (stmts_of (map stmt_view (map (λ e. e.0) es))) ≤ most (map (λ x. x + 1) (map depth_of (map (λ e. e.0) es)))
   block_levels [] = omega arith
@@ -189,21 +191,24 @@ module _ (n : ℕ) where
   stmt_small (StmtKind-F.Expr x) p = ((λ g. short x (g x (first refl))), omega arith)
   stmt_small (StmtKind-F.Variables v) p = ((λ g. names_short v.names g), omega arith)
   stmt_small (StmtKind-F.If x a) p = ((λ g. (short x (g x (first refl)), a.1.0 (λ y m. g y (later m)))), (let b = a.1.1 in omega arith))
-  stmt_small (StmtKind-F.Choose x a b) p =
-      ((λ g. (short x (g x (first refl)), a.1.0 (λ y m. g y (later (Has-left (exprs_of_stmt a.0) (exprs_of_stmt b.0) m))), b.1.0 (λ y m. g y (later (Has-right (exprs_of_stmt a.0) (exprs_of_stmt b.0) m))))),
-      (let c = a.1.1 in let e = b.1.1 in omega arith))
+  stmt_small (StmtKind-F.Choose x a b) p = (
+    (λ g. (short x (g x (first refl)), a.1.0 (λ y m. g y (later (Has-left (exprs_of_stmt a.0) (exprs_of_stmt b.0) m))), b.1.0 (λ y m. g y (later (Has-right (exprs_of_stmt a.0) (exprs_of_stmt b.0) m))))),
+    (let c = a.1.1 in let e = b.1.1 in omega arith),
+  )
   stmt_small (StmtKind-F.While x a) p = ((λ g. (short x (g x (first refl)), a.1.0 (λ y m. g y (later m)))), (let b = a.1.1 in omega arith))
   stmt_small (StmtKind-F.Do a x) p =
       ((λ g. (a.1.0 (left (exprs_of_stmt a.0) (x ∷ []) g), short x (g x (Has-right (exprs_of_stmt a.0) (x ∷ []) (first refl))))), (let b = a.1.1 in omega arith))
-  stmt_small (StmtKind-F.For s c x a) p =
-      ((λ g.
+  stmt_small (StmtKind-F.For s c x a) p = (
+    (λ g.
         let most = left (start_exprs s ++ maybe c ++ maybe x) (exprs_of_stmt a.0) g in
-        let two = left (start_exprs s ++ maybe c) (maybe x) most in
-        (start_short s (left (start_exprs s) (maybe c) two),
-        maybe_short c (right (start_exprs s) (maybe c) two),
-        maybe_short x (right (start_exprs s ++ maybe c) (maybe x) most),
-        a.1.0 (right (start_exprs s ++ maybe c ++ maybe x) (exprs_of_stmt a.0) g))),
-      (let b = a.1.1 in omega arith))
+        let two = left (start_exprs s ++ maybe c) (maybe x) most in (
+          start_short s (left (start_exprs s) (maybe c) two),
+          maybe_short c (right (start_exprs s) (maybe c) two),
+          maybe_short x (right (start_exprs s ++ maybe c) (maybe x) most),
+          a.1.0 (right (start_exprs s ++ maybe c ++ maybe x) (exprs_of_stmt a.0) g),
+        )),
+    (let b = a.1.1 in omega arith),
+  )
   stmt_small StmtKind-F.Break p = ((λ g. tt), omega arith)
   stmt_small StmtKind-F.Continue p = ((λ g. tt), omega arith)
   stmt_small (StmtKind-F.Return x) p = return_short p x

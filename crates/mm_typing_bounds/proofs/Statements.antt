@@ -1,12 +1,12 @@
 -- How large the checked trees of typed statements are.
-use Rattle.std.proofs.Common.{◌≡◌, ℕ, ◌+◌, ◌*◌, ◌<◌, ◌≤◌, max, List, [], ◌∷◌, ◌++◌, length, refl, sym, subst, ap, inl, inr, arith}
+use Rattle.std.proofs.Common.{◌≡◌, ℕ, ◌+◌, ◌*◌, ◌≤◌, max, List, [], ◌∷◌, ◌++◌, length, refl, subst, arith}
 use Rattle.std.specs.Prelude.{Bool, true, false, if◌then◌else◌, Option, Some, None}
 use Rattle.mm_classes.specs.declared.class.Ty.{Ty}
 use Rattle.mm_classes.specs.declared.class.Ty.TheVariants as ty
 use Rattle.mm_core.specs.Tree as k
 use Rattle.mm_core.specs.View.{stmts_of}
-use Rattle.mm_core.specs.Sizes.{depth, stmt_depth, stmts_depth}
-use Rattle.mm_simulate.specs.Lowered.{nesting, nesting_stmt, nesting_stmts, reach, reach_stmt, reach_stmts}
+use Rattle.mm_core.specs.Sizes.{stmt_depth, stmts_depth}
+use Rattle.mm_simulate.specs.Lowered.{nesting_stmt, nesting_stmts, reach_stmt, reach_stmts}
 use Rattle.mm_scopes.specs.Environment.{Environment}
 use Rattle.mm_scopes.specs.declared.head.Var.{Var}
 use Rattle.mm_syntax.specs.Tree as syntax
@@ -15,10 +15,10 @@ use Rattle.mm_typing.specs.Typing.{Types, TypesAs}
 use Rattle.mm_typing.specs.Conversions.{converted}
 use Rattle.mm_unit_typing.specs.declared.here.Here.{Here}
 use Rattle.mm_unit_typing.specs.Scopes.{inside, variable, within, turn_within, behind, behind_start}
-use Rattle.mm_unit_typing.specs.Made.{Made, made, zero_of, block_of, is_block, nodes_of}
+use Rattle.mm_unit_typing.specs.Made.{Made, zero_of, block_of, is_block, nodes_of}
 use Rattle.mm_unit_typing.specs.Statements.{Begins as Starts, AllBegin, StartTypes, TestTypes, StepTypes, StmtTypes, StmtsType}
 use Rattle.mm_typing_bounds.specs.Sizes.{size, InitializerIsShort, DeclaratorsAreShort, StartIsShort, MaybeShort, StmtIsShort, StmtsAreShort, levels, all_levels}
-use Rattle.mm_typing_bounds.specs.Bounded.{IsBounded, StmtIsBounded}
+use Rattle.mm_typing_bounds.specs.Bounded.{StmtIsBounded}
 use Rattle.mm_typing_bounds.proofs.Expressions.{IsWithin, bounded, converted_within}
 
 abbrev pub AllStmtsBounded : ℕ → ℕ → List k.Stmt → Type 0
@@ -197,31 +197,33 @@ module _ (env : Environment) (n : ℕ) where
     stmt_bounded here vs locals (syntax.if_then p e s) v r h =
         let x = stmt_bounded (within here vs) vs locals s h.2.0 r.1 h.2.1 in
         subst (λ (w : Made (List k.Stmt)). AllStmtsBounded n (levels s + 1) w.tree) h.2.2
-          (if_bounded n h.0 (as_within vs ty.Bool e h.0 r.0 h.1) (levels s) (stmts_of h.2.0.tree) k.no_stmts (list_bounded n (levels s) h.2.0.tree x) (list_bounded n (levels s) [] tt), tt)
+        (if_bounded n h.0 (as_within vs ty.Bool e h.0 r.0 h.1) (levels s) (stmts_of h.2.0.tree) k.no_stmts (list_bounded n (levels s) h.2.0.tree x) (list_bounded n (levels s) [] tt), tt)
     stmt_bounded here vs locals (syntax.if_else p e s u) v r h =
         let x = stmt_bounded (within here vs) vs locals s h.2.0 r.1 h.2.1 in
         let y = stmt_bounded (within here vs) vs h.2.0.locals u h.2.2.0 r.2 h.2.2.1 in
-        subst (λ (w : Made (List k.Stmt)). AllStmtsBounded n (max (levels s + 1) (levels u + 1)) w.tree) h.2.2.2
-          (more n (max (levels s) (levels u) + 1) (max (levels s + 1) (levels u + 1)) (k.if_else h.0 (stmts_of h.2.0.tree) (stmts_of h.2.2.0.tree)) (omega arith)
-            (if_bounded n h.0 (as_within vs ty.Bool e h.0 r.0 h.1) (max (levels s) (levels u)) (stmts_of h.2.0.tree) (stmts_of h.2.2.0.tree)
+        subst (λ (w : Made (List k.Stmt)). AllStmtsBounded n (max (levels s + 1) (levels u + 1)) w.tree) h.2.2.2 (
+          more n (max (levels s) (levels u) + 1) (max (levels s + 1) (levels u + 1)) (k.if_else h.0 (stmts_of h.2.0.tree) (stmts_of h.2.2.0.tree)) (omega arith)
+              (if_bounded n h.0 (as_within vs ty.Bool e h.0 r.0 h.1) (max (levels s) (levels u)) (stmts_of h.2.0.tree) (stmts_of h.2.2.0.tree)
               (list_bounded n (max (levels s) (levels u)) h.2.0.tree (all_more n (levels s) (max (levels s) (levels u)) h.2.0.tree (omega arith) x))
-              (list_bounded n (max (levels s) (levels u)) h.2.2.0.tree (all_more n (levels u) (max (levels s) (levels u)) h.2.2.0.tree (omega arith) y))), tt)
+              (list_bounded n (max (levels s) (levels u)) h.2.2.0.tree (all_more n (levels u) (max (levels s) (levels u)) h.2.2.0.tree (omega arith) y))),
+          tt,
+        )
     stmt_bounded here vs locals (syntax.while_do p e s) v r h =
         let x = stmt_bounded (turn_within here vs) vs locals s h.2.0 r.1 h.2.1 in
         subst (λ (w : Made (List k.Stmt)). AllStmtsBounded n (levels s + 1) w.tree) h.2.2
-          (while_bounded n h.0 (as_within vs ty.Bool e h.0 r.0 h.1) (levels s) (stmts_of h.2.0.tree) (list_bounded n (levels s) h.2.0.tree x), tt)
+        (while_bounded n h.0 (as_within vs ty.Bool e h.0 r.0 h.1) (levels s) (stmts_of h.2.0.tree) (list_bounded n (levels s) h.2.0.tree x), tt)
     stmt_bounded here vs locals (syntax.do_while p s e) v r h =
         let x = stmt_bounded (turn_within here vs) vs locals s h.0 r.0 h.1 in
         subst (λ (w : Made (List k.Stmt)). AllStmtsBounded n (levels s + 1) w.tree) h.2.2
-          (do_bounded n h.2.0 (as_within vs ty.Bool e h.2.0 r.1 h.2.1) (levels s) (stmts_of h.0.tree) (list_bounded n (levels s) h.0.tree x), tt)
+        (do_bounded n h.2.0 (as_within vs ty.Bool e h.2.0 r.1 h.2.1) (levels s) (stmts_of h.0.tree) (list_bounded n (levels s) h.0.tree x), tt)
     stmt_bounded here vs locals (syntax.for_do p start c s u) v r h =
         let g = h.2.1.2.2 in
         let all = behind_start vs locals start in
         let x = stmt_bounded (turn_within here all) all h.0.locals u g.0 r.3 g.1 in
         let loop = subst (λ (w : Made k.Stmt). StmtIsBounded n (levels u + 1) w.tree) g.2
-            (for_bounded n h.2.1.0 (test_within all c h.2.1.0 r.1 h.2.1.1) (levels u) h.2.1.2.0 (stmts_of g.0.tree) (step_small all s h.2.1.2.0 r.2 h.2.1.2.1) (list_bounded n (levels u) g.0.tree x)) in
+        (for_bounded n h.2.1.0 (test_within all c h.2.1.0 r.1 h.2.1.1) (levels u) h.2.1.2.0 (stmts_of g.0.tree) (step_small all s h.2.1.2.0 r.2 h.2.1.2.1) (list_bounded n (levels u) g.0.tree x)) in
         subst (λ (w : Made (List k.Stmt)). AllStmtsBounded n (levels u + 1) w.tree) h.2.2
-          (both n (levels u + 1) h.0.tree (h.2.0.tree ∷ []) (start_bounded (within here vs) vs (levels u + 1) locals start h.0 r.0 h.1) (loop, tt))
+        (both n (levels u + 1) h.0.tree (h.2.0.tree ∷ []) (start_bounded (within here vs) vs (levels u + 1) locals start h.0 r.0 h.1) (loop, tt))
     stmt_bounded here vs locals (syntax.break p) v r h = subst (λ (w : Made (List k.Stmt)). AllStmtsBounded n 0 w.tree) h.2 (word_bounded n 0 k.break refl refl refl, tt)
     stmt_bounded here vs locals (syntax.continue p) v r h = subst (λ (w : Made (List k.Stmt)). AllStmtsBounded n 0 w.tree) h.2 (word_bounded n 0 k.continue refl refl refl, tt)
     stmt_bounded here vs locals (syntax.return_nothing p) v r h = subst (λ (w : Made (List k.Stmt)). AllStmtsBounded n 0 w.tree) h.2 (word_bounded n 0 k.return_nothing refl refl refl, tt)
@@ -234,4 +236,4 @@ module _ (env : Environment) (n : ℕ) where
         let y = stmts_bounded here (behind vs locals s) h.0.locals ss h.2.0 r.1 h.2.1 in
         let l = max (levels s + 1) (all_levels ss) in
         subst (λ (w : Made (List k.Stmt)). AllStmtsBounded n l w.tree) h.2.2
-          (both n l (nodes_of s h.0.tree) h.2.0.tree (all_more n (levels s + 1) l (nodes_of s h.0.tree) (omega arith) (nodes_bounded n (levels s) s h.0.tree x)) (all_more n (all_levels ss) l h.2.0.tree (omega arith) y))
+        (both n l (nodes_of s h.0.tree) h.2.0.tree (all_more n (levels s + 1) l (nodes_of s h.0.tree) (omega arith) (nodes_bounded n (levels s) s h.0.tree x)) (all_more n (all_levels ss) l h.2.0.tree (omega arith) y))

@@ -1,25 +1,20 @@
 -- How large the bodies of a typed unit are.
-use Rattle.std.proofs.Common.{◌≡◌, ℕ, ◌+◌, ◌*◌, ◌<◌, ◌≤◌, ◌^◌, List, [], ◌∷◌, ◌++◌, length, refl, sym, subst, ap, inl, inr, arith}
-use Rattle.std.specs.Prelude.{Bool, true, false, if◌then◌else◌, Option, Some, None, slice_get, drop, ◌⊎◌}
+use Rattle.std.proofs.Common.{◌≡◌, ℕ, ◌+◌, ◌≤◌, List, [], ◌∷◌, length, refl, sym, subst, inl, inr, arith}
+use Rattle.std.specs.Prelude.{Some, None, drop}
 use Rattle.mm_base.specs.declared.limits.TheConstants.{MAX_TOKEN_RUN, MAX_NESTING}
-use Rattle.mm_classes.specs.declared.class.Ty.{Ty}
-use Rattle.mm_classes.specs.Lists.{Has, first, later}
+use Rattle.mm_classes.specs.Lists.{Has}
 use Rattle.mm_core.specs.Tree as k
 use Rattle.mm_core.specs.Units.{Checked}
 use Rattle.mm_core.proofs.Entering.{slice-Has}
-use Rattle.mm_simulate.specs.Lowered.{nesting_stmt, reach_stmt}
-use Rattle.mm_simulate.specs.Simulates.{IsShallow}
-use Rattle.mm_syntax.specs.declared.decl.Unit.{Unit as UnitInMemory}
-use Rattle.mm_syntax.specs.Limits.{IsWithinLimits}
 use Rattle.mm_syntax.specs.Tree as syntax
 use Rattle.mm_syntax.specs.View.{unit_view}
 use Rattle.mm_unit_typing.specs.Scopes.{parameters_from}
-use Rattle.mm_unit_typing.specs.Made.{Made, block_of}
-use Rattle.mm_unit_typing.specs.Functions.{with_function, with_body, defined_with, number_of, declared_function, seen}
-use Rattle.mm_unit_typing.specs.Units.{body_here, FunctionTypes, DeclsType, UnitTypes}
+use Rattle.mm_unit_typing.specs.Made.{block_of}
+use Rattle.mm_unit_typing.specs.Functions.{with_function, number_of, seen}
+use Rattle.mm_unit_typing.specs.Units.{body_here, FunctionTypes, DeclsType}
 use Rattle.mm_typing_valid.proofs.Functions.{from_body, from_declared}
 use Rattle.mm_typing_bounds.specs.Sizes.{levels, FunctionIsSmall, DeclsAreSmall}
-use Rattle.mm_typing_bounds.specs.Bounded.{StmtIsBounded, BodiesAreBounded, TypedUnitIsBounded, NeedsFew, TypedUnitIsShallow}
+use Rattle.mm_typing_bounds.specs.Bounded.{StmtIsBounded, TypedUnitIsBounded, TypedUnitIsShallow}
 use Rattle.mm_typing_bounds.proofs.Statements.{block_bounded, stmt_bounded}
 use Rattle.mm_typing_bounds.proofs.Limits.{unit_is_small}
 

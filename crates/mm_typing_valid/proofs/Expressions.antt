@@ -1,17 +1,15 @@
 -- What is typed is a valid checked tree of its type.
-use Rattle.std.proofs.Common.{◌≡◌, ◌≢◌, ℕ, ◌<◌, ◌^◌, ◌-◌, List, [], ◌∷◌, ◌++◌, map, refl, sym, subst, ap, ◌∙◌, inl, inr, arith}
-use Rattle.std.specs.Prelude.{Bool, true, false, IsTrue, ◌&&◌, ◌||◌, if◌then◌else◌, Option, Some, None, pos, negsuc, nat_eq, length, ◌⊎◌}
+use Rattle.std.proofs.Common.{◌≡◌, ◌≢◌, ℕ, ◌<◌, ◌^◌, List, [], ◌∷◌, ◌++◌, refl, sym, subst, ap, ◌∙◌, inl, arith}
+use Rattle.std.specs.Prelude.{Bool, true, false, IsTrue, ◌&&◌, ◌||◌, if◌then◌else◌, Option, Some, None, nat_eq, length}
 use Rattle.mm_base.specs.Num.{is_int, to_int}
 use Rattle.mm_classes.specs.declared.class.Ty.{Ty}
 use Rattle.mm_classes.specs.declared.class.Ty.TheVariants as ty
 use Rattle.mm_classes.specs.Lists.{Has, first, later}
 use Rattle.mm_core.specs.declared.part.Operator.{Operator}
 use Rattle.mm_core.specs.declared.part.Operator.TheVariants as op
-use Rattle.mm_core.specs.declared.part.Change.{Change}
-use Rattle.mm_core.specs.Heads.{class_in, is_reference, same_type, type_at}
+use Rattle.mm_core.specs.Heads.{is_reference, same_type, type_at}
 use Rattle.mm_core.specs.Tree as k
-use Rattle.mm_core.specs.Valid.{Around, is_number, is_arithmetic, as_pointer, compares, type_of, IsValid, IsKnown, AreOperands}
-use Rattle.mm_overload.specs.declared.choice.Best.TheVariants as best
+use Rattle.mm_core.specs.Valid.{Around, is_number, is_arithmetic, as_pointer, compares, type_of}
 use Rattle.mm_scopes.specs.declared.head.Var.{Var}
 use Rattle.mm_scopes.specs.Environment.{Environment}
 use Rattle.mm_scopes.specs.Names.{Means}
@@ -21,7 +19,6 @@ use Rattle.mm_syntax.specs.declared.name.UnaryOperator.TheVariants as unary
 use Rattle.mm_syntax.specs.declared.name.StepOperator.{StepOperator}
 use Rattle.mm_syntax.specs.Numbers.{is_unsigned}
 use Rattle.mm_syntax.specs.Tree as t
-use Rattle.mm_typing.specs.declared.typed.Kind.{Kind}
 use Rattle.mm_typing.specs.declared.typed.Kind.TheVariants as kind
 use Rattle.mm_typing.specs.declared.typed.Operation.{Operation}
 use Rattle.mm_typing.specs.declared.typed.Operation.TheVariants as operation
@@ -29,13 +26,13 @@ use Rattle.mm_typing.specs.declared.typed.Assignment.{Assignment}
 use Rattle.mm_typing.specs.declared.typed.Assignment.TheVariants as assignment
 use Rattle.mm_typing.specs.Typed.{Typed, typed, number_typed, local_typed}
 use Rattle.mm_typing.specs.Conversions.{is_void, common, joined, converts, converted}
-use Rattle.mm_typing.specs.Operators.{operation_of, assignment_of, change_of, result_of, operated, promoted, zero_of, plus, minus, negated, both_of, either_of, are_branches, chosen, set, changed, one, stepped}
+use Rattle.mm_typing.specs.Operators.{operation_of, assignment_of, change_of, result_of, operated, promoted, zero_of, minus, chosen, set, changed, one}
 use Rattle.mm_typing.specs.Calls.{Candidate}
-use Rattle.mm_typing.specs.Typing.{UnaryTypes, StepTypes, OperationTypes, ChooseTypes, AssignTypes, Changes, Calls, CallTypes, Types, AreTyped, TypesAs}
+use Rattle.mm_typing.specs.Typing.{UnaryTypes, StepTypes, OperationTypes, ChooseTypes, AssignTypes, Changes, Calls, CallTypes, Types, AreTyped}
 use Rattle.mm_typing_valid.specs.Numbers.{IsInRange, AreInRange}
 use Rattle.mm_typing_valid.specs.Seen.{IsPlain, IsSeen, IsVarOf}
 use Rattle.mm_typing_valid.specs.Expressions.{IsOf, IsSound, TypedIsValid, TypedAsIsValid}
-use Rattle.mm_typing_valid.proofs.Conversions.{both_true, are_both, no_void, no_reference, arithmetic_plain, number_arithmetic, void_is, common_number, joined_arithmetic, result_arithmetic, alone, converted_is, becomes, zero_is, suits}
+use Rattle.mm_typing_valid.proofs.Conversions.{both_true, no_void, no_reference, arithmetic_plain, number_arithmetic, void_is, common_number, joined_arithmetic, result_arithmetic, alone, converted_is, becomes, zero_is, suits}
 use Rattle.mm_typing_valid.proofs.Calls.{AllSound, chosen_valid}
 
 signed_is : (n : ℕ) → is_int (to_int n) ≡ true
@@ -60,6 +57,7 @@ module _ (a : Around) (known : List ℕ) where
     kind_is : (b : Bool) (l : ℕ) → (if b then kind.Zero else kind.Value) ≡ kind.Local l → ⊥
     kind_is true l e = cc
     kind_is false l e = cc
+
     by : (u : Bool) → IsSound a known (if u then typed (k.unsigned n.value) ty.Unsigned else record { core = k.int (to_int n.value); ty = ty.Int; kind = if nat_eq n.value 0 then kind.Zero else kind.Value })
     by true = number_is (k.unsigned n.value) ty.Unsigned refl (refl, low)
     by false = record { of = (refl, signed_is n.value); plain = refl; place = λ l e. absurd (kind_is (nat_eq n.value 0) l e) }
@@ -82,7 +80,7 @@ module _ (a : Around) (known : List ℕ) where
       let l = becomes a known (common x.ty y.ty) x n (number_arithmetic (common x.ty y.ty) c) g in
       let r = becomes a known (common x.ty y.ty) y m (number_arithmetic (common x.ty y.ty) c) h in
       number_is (k.binary o (converted (common x.ty y.ty) x) (converted (common x.ty y.ty) y)) (result_of o x.ty y.ty) (result_arithmetic o x.ty y.ty)
-        (ap (λ t. if compares o then ty.Bool else t) l.0, (inl (subst (λ t. IsTrue (is_number t)) (sym l.0) c, l.0 ∙ sym r.0), l.1, r.1))
+      (ap (λ t. if compares o then ty.Bool else t) l.0, (inl (subst (λ t. IsTrue (is_number t)) (sym l.0) c, l.0 ∙ sym r.0), l.1, r.1))
 
   set_is : (l : ℕ) (to : Ty) (y : Typed) → l < length a.locals → type_at a.locals l ≡ to → is_arithmetic y.ty ≡ true → is_arithmetic to ≡ true → IsOf a known y.core y.ty → IsSound a known (set l to y)
   set_is l to y low is n m h =
@@ -142,15 +140,16 @@ module _ (a : Around) (known : List ℕ) where
   -- the branches of a choice in one type
   choice_is : (c d e : k.Expr) (t : Ty) → IsPlain t → (if same_type t t then t else as_pointer t) ≡ t → IsOf a known c ty.Bool → IsOf a known d t → IsOf a known e t → IsSound a known (typed (k.choose c d e) t)
   choice_is c d e t p same g h i =
-      value_is (k.choose c d e) t p
-        (ap (λ x. if same_type x (type_of a e) then x else as_pointer x) h.0 ∙ ap (λ x. if same_type t x then t else as_pointer t) i.0 ∙ same,
-        (g.0, inl (h.0 ∙ sym i.0), g.1, h.1, i.1))
+      value_is (k.choose c d e) t p (
+        ap (λ x. if same_type x (type_of a e) then x else as_pointer x) h.0 ∙ ap (λ x. if same_type t x then t else as_pointer t) i.0 ∙ same,
+        (g.0, inl (h.0 ∙ sym i.0), g.1, h.1, i.1),
+      )
 
   arithmetic_branches : (d x y : Typed) → converts d.ty ty.Bool ≡ true → is_arithmetic x.ty ≡ true → is_arithmetic y.ty ≡ true → IsOf a known d.core d.ty → IsOf a known x.core x.ty → IsOf a known y.core y.ty → IsSound a known (chosen d x y)
   arithmetic_branches d x y c n m g h i =
       let j = joined_arithmetic x.ty y.ty n in
       choice_is (converted ty.Bool d) (converted (joined x.ty y.ty) x) (converted (joined x.ty y.ty) y) (joined x.ty y.ty) (arithmetic_plain (joined x.ty y.ty) j) (alone (joined x.ty y.ty) j)
-        (converted_is a known ty.Bool d c g) (becomes a known (joined x.ty y.ty) x n j h) (becomes a known (joined x.ty y.ty) y m j i)
+      (converted_is a known ty.Bool d c g) (becomes a known (joined x.ty y.ty) x n j h) (becomes a known (joined x.ty y.ty) y m j i)
 
   void_branches : (d x y : Typed) → converts d.ty ty.Bool ≡ true → x.ty ≡ ty.Void → y.ty ≡ ty.Void → IsOf a known d.core d.ty → IsOf a known x.core x.ty → IsOf a known y.core y.ty → IsSound a known (chosen d x y)
   void_branches d x y c n m g h i = subst (λ t. IsSound a known (branches t y.ty)) (sym n) (subst (λ t. IsSound a known (branches ty.Void t)) (sym m)

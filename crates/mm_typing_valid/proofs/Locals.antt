@@ -1,6 +1,6 @@
 -- The locals of a function are numbered in the order of their declarations, and stay.
-use Rattle.std.proofs.Common.{◌≡◌, ◌≢◌, ℕ, zero, suc, ◌+◌, ◌<◌, List, [], ◌∷◌, ◌++◌, length, refl, sym, subst, ap, ◌∙◌, inl, inr, arith}
-use Rattle.std.specs.Prelude.{Bool, true, false, not, IsTrue, ◌⊎◌, Option, Some, None}
+use Rattle.std.proofs.Common.{◌≡◌, ◌≢◌, ℕ, ◌+◌, ◌<◌, List, [], ◌∷◌, ◌++◌, length, refl, sym, subst, ap, ◌∙◌, inl, inr, arith}
+use Rattle.std.specs.Prelude.{true, false, not, ◌⊎◌, Option, Some, None}
 use Rattle.mm_classes.specs.declared.class.Ty.{Ty}
 use Rattle.mm_classes.specs.declared.class.Ty.TheVariants as ty
 use Rattle.mm_classes.specs.Lists.{Has, first, later}
@@ -9,16 +9,15 @@ use Rattle.mm_core.specs.Tree as k
 use Rattle.mm_core.specs.Valid.{Around, is_arithmetic}
 use Rattle.mm_scopes.specs.declared.head.Var.{Var}
 use Rattle.mm_scopes.specs.Environment.{Environment}
-use Rattle.mm_syntax.specs.declared.name.Name.{Name}
 use Rattle.mm_syntax.specs.declared.name.DeclaratorMark.{DeclaratorMark}
 use Rattle.mm_syntax.specs.declared.expr.TypeNameKind.{TypeNameKind}
 use Rattle.mm_syntax.specs.declared.expr.TypeNameKind.TheVariants as type
 use Rattle.mm_syntax.specs.Tree as syntax
 use Rattle.mm_typing.specs.Conversions.{is_void}
 use Rattle.mm_unit_typing.specs.declared.here.Here.{Here}
-use Rattle.mm_unit_typing.specs.Declarators.{scalar_of, Names, holds_value}
-use Rattle.mm_unit_typing.specs.Scopes.{variable, type_or_void, type_named, variables_from, declared_by, declared, started, within, turn_within, behind, behind_start}
-use Rattle.mm_unit_typing.specs.Made.{Made, made, is_block, nodes_of}
+use Rattle.mm_unit_typing.specs.Declarators.{scalar_of, holds_value}
+use Rattle.mm_unit_typing.specs.Scopes.{variable, type_or_void, type_named, variables_from, declared_by, within, turn_within, behind, behind_start}
+use Rattle.mm_unit_typing.specs.Made.{Made}
 use Rattle.mm_unit_typing.specs.Statements.{Begins as Starts, AllBegin, VariablesType, StartTypes, StmtTypes, StmtsType}
 use Rattle.mm_typing_valid.specs.Seen.{IsPlain, IsVarOf}
 use Rattle.mm_typing_valid.specs.Statements.{Begins}

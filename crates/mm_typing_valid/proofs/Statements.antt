@@ -1,31 +1,31 @@
 -- What statements are typed as is valid.
-use Rattle.std.proofs.Common.{◌≡◌, ◌≢◌, ℕ, ◌<◌, List, [], ◌∷◌, ◌++◌, length, refl, sym, subst, ap, ◌∙◌, inl, inr, arith}
-use Rattle.std.specs.Prelude.{Bool, true, false, not, IsTrue, if◌then◌else◌, Option, Some, None, pos}
+use Rattle.std.proofs.Common.{◌≡◌, ◌≢◌, ℕ, List, [], ◌∷◌, ◌++◌, length, refl, sym, subst, ap, ◌∙◌, arith}
+use Rattle.std.specs.Prelude.{Bool, true, false, not, IsTrue, if◌then◌else◌, Option, Some, None}
 use Rattle.mm_classes.specs.declared.class.Ty.{Ty}
 use Rattle.mm_classes.specs.declared.class.Ty.TheVariants as ty
 use Rattle.mm_classes.specs.Lists.{Has, first, later}
 use Rattle.mm_core.specs.Heads.{type_at}
 use Rattle.mm_core.specs.Tree as k
 use Rattle.mm_core.specs.View.{stmts_of}
-use Rattle.mm_core.specs.Valid.{Around, is_arithmetic, type_of, IsValid, IsTest, sets, IsValidStmt, AreValidStmts, is_step}
+use Rattle.mm_core.specs.Valid.{Around, is_arithmetic, type_of, IsTest, sets, AreValidStmts, is_step}
 use Rattle.mm_scopes.specs.declared.head.Var.{Var}
 use Rattle.mm_scopes.specs.declared.head.FnHead.{FnHead}
 use Rattle.mm_scopes.specs.Environment.{Environment}
 use Rattle.mm_syntax.specs.Tree as syntax
 use Rattle.mm_typing.specs.Typed.{Typed}
 use Rattle.mm_typing.specs.Typing.{Types, TypesAs}
-use Rattle.mm_typing.specs.Conversions.{is_void, converts, converted, Becomes}
+use Rattle.mm_typing.specs.Conversions.{is_void}
 use Rattle.mm_unit_typing.specs.declared.here.Here.{Here}
 use Rattle.mm_unit_typing.specs.Scopes.{inside, variable, within, turn_within, behind, behind_start}
-use Rattle.mm_unit_typing.specs.Made.{Made, made, zero_of, block_of, is_block, nodes_of}
+use Rattle.mm_unit_typing.specs.Made.{Made, zero_of, block_of, is_block, nodes_of}
 use Rattle.mm_unit_typing.specs.Statements.{Begins as Starts, AllBegin, StartTypes, TestTypes, StepTypes, StmtTypes, StmtsType}
 use Rattle.mm_typing_valid.specs.Numbers.{IsInRange, InitializerInRange, DeclaratorsInRange, StartInRange, MaybeInRange, StmtInRange, StmtsInRange}
 use Rattle.mm_typing_valid.specs.Seen.{IsPlain, IsVarOf, IsHeadOf, IsSeen}
-use Rattle.mm_typing_valid.specs.Expressions.{IsOf, IsSound}
+use Rattle.mm_typing_valid.specs.Expressions.{IsOf}
 use Rattle.mm_typing_valid.specs.Statements.{IsValidAt, AreValidAt, Begins, TypedStmtIsValid, TypedStmtExtends}
-use Rattle.mm_typing_valid.proofs.Conversions.{both_true, no_void, void_is as void_here, converted_is, suits}
+use Rattle.mm_typing_valid.proofs.Conversions.{no_void, void_is as void_here, suits}
 use Rattle.mm_typing_valid.proofs.Expressions.{valid_of, typed_as_is_valid}
-use Rattle.mm_typing_valid.proofs.Locals.{further, at_end, scalar_plain, holds_arithmetic, begins_extend, start_extends, stmt_extends, stmts_extend, AllVars, may_begin, var_at, with_vars, vars_behind, vars_started}
+use Rattle.mm_typing_valid.proofs.Locals.{further, at_end, scalar_plain, holds_arithmetic, begins_extend, stmt_extends, stmts_extend, AllVars, may_begin, var_at, with_vars, vars_behind, vars_started}
 
 zero_valid : (a : Around) (known : List ℕ) (t : Ty) → is_arithmetic t ≡ true → IsOf a known (zero_of t) t
 zero_valid a known ty.Void e = cc
@@ -74,6 +74,7 @@ module _ (a : Around) (result : Ty) where
     starts_valid here t p vs locals x s l f r b h = by x.initializer r h where
       arithmetic : is_arithmetic t ≡ true
       arithmetic = holds_arithmetic x.mark t p (may_begin env a here t vs (length locals) x s h)
+
       by : (i : syntax.Initializer) → InitializerInRange i → Starts env here t vs (length locals) x.mark x.name i s → IsValidAt a result l s
       by syntax.no_initial r h = subst (IsValidAt a result l) h.2.2 (set_valid l locals t (zero_of t) arithmetic b (λ known. zero_valid a known t arithmetic))
       by (syntax.initial e) r h = subst (IsValidAt a result l) h.2.2.2.2 (set_valid l locals t h.2.2.0 arithmetic b (λ known. as_valid vs t e h.2.2.0 f r (h.0, h.1, h.2.2.1) known))
@@ -88,7 +89,7 @@ module _ (a : Around) (result : Ty) where
         let n = holds_arithmetic x.mark t p (may_begin env a here t vs (length locals) x h.0 h.1) in
         let g = with_vars env a vs (variable x.name.text t (length locals) ∷ []) f (λ y m. elim m [ first e ↦ subst (IsVarOf a) e (var_at env a locals t x.name.text n deeper) | later k ↦ elim k [ ] ]) in
         subst (λ (w : Made (List k.Stmt)). AreValidAt a result l w.tree) h.2.2
-          (starts_valid here t p vs locals x h.0 l f r.0 deeper h.1, all_start here t p next (locals ++ t ∷ []) xs h.2.0 l g r.1 stays h.2.1)
+        (starts_valid here t p vs locals x h.0 l f r.0 deeper h.1, all_start here t p next (locals ++ t ∷ []) xs h.2.0 l g r.1 stays h.2.1)
 
     start_valid : (here : Here) (vs : List Var) (locals : List Ty) (x : syntax.Start) (v : Made (List k.Stmt)) (l : Bool) → AllVars env a vs → StartInRange x → Begins v.locals a.locals → StartTypes env here vs locals x v → AreValidAt a result l v.tree
     start_valid here vs locals syntax.no_start v l f r b h = subst (λ (w : Made (List k.Stmt)). AreValidAt a result l w.tree) h ((λ known. tt), tt)
@@ -121,24 +122,24 @@ module _ (a : Around) (result : Ty) where
           let stays = subst (λ (w : Made (List k.Stmt)). Begins w.locals a.locals) (sym h.2.2) b in
           let x = stmt_valid (within here vs) same vs locals s h.2.0 f r.1 stays h.2.1 in
           subst (λ (w : Made (List k.Stmt)). AreValidAt a result here.in_loop w.tree) h.2.2
-            ((λ known. (as_valid vs ty.Bool e h.0 f r.0 h.1 known, stmts_valid here.in_loop h.2.0.tree known x, tt)), tt)
+          ((λ known. (as_valid vs ty.Bool e h.0 f r.0 h.1 known, stmts_valid here.in_loop h.2.0.tree known x, tt)), tt)
       stmt_valid here same vs locals (syntax.if_else p e s u) v f r b h =
           let stays = subst (λ (w : Made (List k.Stmt)). Begins w.locals a.locals) (sym h.2.2.2) b in
           let later = stmt_extends env (within here vs) vs h.2.0.locals u h.2.2.0 h.2.2.1 in
           let x = stmt_valid (within here vs) same vs locals s h.2.0 f r.1 (further h.2.0.locals h.2.2.0.locals a.locals later stays) h.2.1 in
           let y = stmt_valid (within here vs) same vs h.2.0.locals u h.2.2.0 f r.2 stays h.2.2.1 in
           subst (λ (w : Made (List k.Stmt)). AreValidAt a result here.in_loop w.tree) h.2.2.2
-            ((λ known. (as_valid vs ty.Bool e h.0 f r.0 h.1 known, stmts_valid here.in_loop h.2.0.tree known x, stmts_valid here.in_loop h.2.2.0.tree known y)), tt)
+          ((λ known. (as_valid vs ty.Bool e h.0 f r.0 h.1 known, stmts_valid here.in_loop h.2.0.tree known x, stmts_valid here.in_loop h.2.2.0.tree known y)), tt)
       stmt_valid here same vs locals (syntax.while_do p e s) v f r b h =
           let stays = subst (λ (w : Made (List k.Stmt)). Begins w.locals a.locals) (sym h.2.2) b in
           let x = stmt_valid (turn_within here vs) same vs locals s h.2.0 f r.1 stays h.2.1 in
           subst (λ (w : Made (List k.Stmt)). AreValidAt a result here.in_loop w.tree) h.2.2
-            ((λ known. (as_valid vs ty.Bool e h.0 f r.0 h.1 known, stmts_valid true h.2.0.tree known x)), tt)
+          ((λ known. (as_valid vs ty.Bool e h.0 f r.0 h.1 known, stmts_valid true h.2.0.tree known x)), tt)
       stmt_valid here same vs locals (syntax.do_while p s e) v f r b h =
           let stays = subst (λ (w : Made (List k.Stmt)). Begins w.locals a.locals) (sym h.2.2) b in
           let x = stmt_valid (turn_within here vs) same vs locals s h.0 f r.0 stays h.1 in
           subst (λ (w : Made (List k.Stmt)). AreValidAt a result here.in_loop w.tree) h.2.2
-            ((λ known. (stmts_valid true h.0.tree known x, as_valid vs ty.Bool e h.2.0 f r.1 h.2.1 known)), tt)
+          ((λ known. (stmts_valid true h.0.tree known x, as_valid vs ty.Bool e h.2.0 f r.1 h.2.1 known)), tt)
       stmt_valid here same vs locals (syntax.for_do p start c s u) v f r b h =
           let g = h.2.1.2.2 in
           let all = behind_start vs locals start in
@@ -149,9 +150,9 @@ module _ (a : Around) (result : Ty) where
           let step = step_valid all s h.2.1.2.0 true vars r.2 h.2.1.2.1 in
           let y = stmt_valid (turn_within here all) same all h.0.locals u g.0 vars r.3 stays g.1 in
           let loop = subst (λ (w : Made k.Stmt). IsValidAt a result here.in_loop w.tree) g.2
-              (λ known. (test_valid all c h.2.1.0 vars r.1 h.2.1.1 known, step.0, step.1 known, stmts_valid true g.0.tree known y)) in
+          (λ known. (test_valid all c h.2.1.0 vars r.1 h.2.1.1 known, step.0, step.1 known, stmts_valid true g.0.tree known y)) in
           subst (λ (w : Made (List k.Stmt)). AreValidAt a result here.in_loop w.tree) h.2.2
-            (both_valid here.in_loop h.0.tree (h.2.0.tree ∷ []) x (loop, tt))
+          (both_valid here.in_loop h.0.tree (h.2.0.tree ∷ []) x (loop, tt))
       stmt_valid here same vs locals (syntax.break p) v f r b h = subst (λ (w : Made (List k.Stmt)). AreValidAt a result here.in_loop w.tree) h.2 ((λ known. h.1), tt)
       stmt_valid here same vs locals (syntax.continue p) v f r b h = subst (λ (w : Made (List k.Stmt)). AreValidAt a result here.in_loop w.tree) h.2 ((λ known. h.1), tt)
       stmt_valid here same vs locals (syntax.return_nothing p) v f r b h = subst (λ (w : Made (List k.Stmt)). AreValidAt a result here.in_loop w.tree) h.2 ((λ known. same ∙ void_here here.result h.1), tt)
@@ -166,7 +167,7 @@ module _ (a : Around) (result : Ty) where
           let g = vars_behind env a here vs locals s h.0 f first h.1 in
           let y = all_valid here same (behind vs locals s) h.0.locals ss h.2.0 g r.1 stays h.2.1 in
           subst (λ (w : Made (List k.Stmt)). AreValidAt a result here.in_loop w.tree) h.2.2
-            (both_valid here.in_loop (nodes_of s h.0.tree) h.2.0.tree (nodes_valid here.in_loop s h.0.tree x) y)
+          (both_valid here.in_loop (nodes_of s h.0.tree) h.2.0.tree (nodes_valid here.in_loop s h.0.tree x) y)
 
 pub typed_stmt_is_valid : TypedStmtIsValid
 typed_stmt_is_valid a env heads here vs locals s v f r b h = stmt_valid a here.result env heads here refl vs locals s v f r b h

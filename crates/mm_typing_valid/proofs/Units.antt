@@ -1,36 +1,31 @@
 -- What typed units are is valid.
-use Rattle.std.proofs.Common.{◌≡◌, ◌≢◌, ℕ, zero, suc, ◌+◌, ◌<◌, ◌≤◌, List, [], ◌∷◌, ◌++◌, length, map, refl, sym, subst, ap, ◌∙◌, inl, inr, arith}
-use Rattle.std.specs.Prelude.{Bool, true, false, not, ◌&&◌, ◌⊎◌, IsTrue, if◌then◌else◌, Option, Some, None, slice_get, drop, AllPairs}
+use Rattle.std.proofs.Common.{◌≡◌, ℕ, zero, suc, List, [], ◌∷◌, ◌++◌, length, refl, sym, subst, ap, ◌∙◌, inl, inr, arith}
+use Rattle.std.specs.Prelude.{Bool, true, false, Some, slice_get, drop, AllPairs}
 use Rattle.std.specs.List.{list_any, count_by}
 use Rattle.std.specs.Str.{bytes_eq}
 use Rattle.mm_classes.specs.declared.class.Ty.{Ty}
-use Rattle.mm_classes.specs.declared.class.Ty.TheVariants as ty
 use Rattle.mm_classes.specs.Lists.{Has, first, later}
-use Rattle.mm_classes.specs.Classes.{Class, IsClassList}
+use Rattle.mm_classes.specs.Classes.{IsClassList}
 use Rattle.mm_core.specs.declared.part.CoreParam.{CoreParam}
-use Rattle.mm_core.specs.Heads.{class_in, same_types, types_of_params, argument_types, local_types}
+use Rattle.mm_core.specs.Heads.{same_types, types_of_params}
 use Rattle.mm_core.specs.Tree as k
 use Rattle.mm_core.specs.Units.{Checked}
 use Rattle.mm_core.specs.Valid.{Around, is_arithmetic}
-use Rattle.mm_core.specs.ValidProgram.{IsDeclared, IsType, IsVariable, IsParam, numbers_below, around, BodyFits, IsValidFunction, AreApart, IsValidProgram, IsValidUnit}
+use Rattle.mm_core.specs.ValidProgram.{IsDeclared, IsVariable, numbers_below, around, BodyFits, IsValidFunction, AreApart, IsValidUnit}
 use Rattle.mm_core.proofs.Entering.{same_types_is, slice-Has}
-use Rattle.mm_scopes.specs.declared.head.FnHead.{FnHead}
-use Rattle.mm_syntax.specs.declared.name.Name.{Name}
 use Rattle.mm_syntax.specs.declared.decl.Head.{Head}
 use Rattle.mm_syntax.specs.Tree as syntax
-use Rattle.mm_unit_typing.specs.Declarators.{is_reserved}
 use Rattle.mm_unit_typing.specs.Scopes.{parameters_from}
 use Rattle.mm_unit_typing.specs.Made.{Made, block_of}
-use Rattle.mm_unit_typing.specs.Functions.{Heading, ParamsType, is_function, number_of, declared_function, with_function, defined_with, with_body, seen}
-use Rattle.mm_unit_typing.specs.Units.{body_here, BodyTypes, defined, FunctionTypes, DeclTypes, DeclsType, unit_of, UnitTypes}
+use Rattle.mm_unit_typing.specs.Functions.{Heading, ParamsType, is_function, number_of, with_function, defined_with, with_body, seen}
+use Rattle.mm_unit_typing.specs.Units.{body_here, BodyTypes, FunctionTypes, DeclsType, UnitTypes}
 use Rattle.mm_typing_valid.specs.Numbers.{StmtInRange, FunctionInRange, DeclsInRange}
-use Rattle.mm_typing_valid.specs.Seen.{IsPlain}
 use Rattle.mm_typing_valid.specs.Statements.{Begins, AreValidAt}
 use Rattle.mm_typing_valid.specs.Units.{TypedUnitIsValid}
 use Rattle.mm_typing_valid.proofs.Conversions.{both_true, no_void, arithmetic_plain}
 use Rattle.mm_typing_valid.proofs.Locals.{itself, further, stmt_extends}
 use Rattle.mm_typing_valid.proofs.Statements.{stmts_valid, typed_stmt_is_valid}
-use Rattle.mm_typing_valid.proofs.Variables.{AllArithmetic, stmt_types}
+use Rattle.mm_typing_valid.proofs.Variables.{stmt_types}
 use Rattle.mm_typing_valid.proofs.Heads.{params_arithmetic, params_vars, IsHeading, head_says}
 use Rattle.mm_typing_valid.proofs.Functions.{Extends, extends_itself, extends_then, extends_body, extends_declared, from_body, from_declared, at_number, is_there, same_result, IsFine, arguments_are, seen_heads, declared_fine, declared_apart, body_apart}
 
@@ -106,15 +101,18 @@ module _ (fs : List k.Function) (x : Head) (h : Heading) (body : syntax.Stmt) (b
   body_is : (final : List k.Function) (g : k.Function) → Extends fs final → g.member ≡ false → types_of_params g.params ≡ h.params → g.result ≡ h.result → BodyIn final (defined_with variables (block_of b.tree) g)
   body_is final g e out params result =
       subst (λ t. BodyFits a t true (Some (block_of b.tree))) (sym result) (stmts_valid a h.result false b.tree (numbers_below a.arguments) valid) where
-    a : Around
-    a = here_in final (defined_with variables (block_of b.tree) g)
-    locals : a.locals ≡ b.locals
-    locals = ap (λ ts. ts ++ variables) (arguments_are (defined_with variables (block_of b.tree) g) out ∙ params) ∙ rest_of h.params b.locals begins
-    all : Begins b.locals a.locals
-    all = subst (Begins b.locals) (sym locals) (itself b.locals)
-    valid : AreValidAt a h.result false b.tree
-    valid = typed_stmt_is_valid a (seen fs) (seen_heads a fs refl (λ f. refl) e ok.fine) (body_here x h) (parameters_from 0 x.params.list) h.params body b
-        (params_vars (seen fs) a [] x.params.list h.params [] typed (further h.params b.locals a.locals begins all)) range all types
+        a : Around
+        a = here_in final (defined_with variables (block_of b.tree) g)
+
+        locals : a.locals ≡ b.locals
+        locals = ap (λ ts. ts ++ variables) (arguments_are (defined_with variables (block_of b.tree) g) out ∙ params) ∙ rest_of h.params b.locals begins
+
+        all : Begins b.locals a.locals
+        all = subst (Begins b.locals) (sym locals) (itself b.locals)
+
+        valid : AreValidAt a h.result false b.tree
+        valid = typed_stmt_is_valid a (seen fs) (seen_heads a fs refl (λ f. refl) e ok.fine) (body_here x h) (parameters_from 0 x.params.list) h.params body b
+            (params_vars (seen fs) a [] x.params.list h.params [] typed (further h.params b.locals a.locals begins all)) range all types
 
   with_defined : list_any (is_function x.name.text h.params) fs ≡ true → ((f : k.Function) → Has fs f → is_function x.name.text h.params f ≡ true → f.result ≡ h.result) → AreFine after
   with_defined there results = record {
@@ -130,6 +128,7 @@ module _ (fs : List k.Function) (x : Head) (h : Heading) (body : syntax.Stmt) (b
   } where
     before : (final : List k.Function) → Extends after final → Extends fs final
     before final e = extends_then fs after final (extends_body fs number variables (block_of b.tree)) e
+
     fine_with : (g : k.Function) → IsFine g → IsFine (defined_with variables (block_of b.tree) g)
     fine_with g f = record {
       outside = f.outside;
@@ -140,6 +139,7 @@ module _ (fs : List k.Function) (x : Head) (h : Heading) (body : syntax.Stmt) (b
       locals = λ t m. stmt_types (seen fs) (here_in fs g) (body_here x h) (parameters_from 0 x.params.list) h.params body b (params_arithmetic 0 [] x.params.list h.params typed) types t (has_drop (length h.params) b.locals t m);
       yours = f.yours;
     }
+
     is_that : (g : k.Function) → slice_get fs number ≡ Some g → is_function x.name.text h.params g ≡ true
     is_that g e =
         let r = at_number (is_function x.name.text h.params) fs there in
@@ -147,6 +147,7 @@ module _ (fs : List k.Function) (x : Head) (h : Heading) (body : syntax.Stmt) (b
       where
         inside : {X : Type 0} {x y : X} → Some x ≡ Some y → x ≡ y
         inside e = cc
+
     params_are_of : (g : k.Function) → slice_get fs number ≡ Some g → types_of_params g.params ≡ h.params
     params_are_of g e = same_types_is (types_of_params g.params) h.params (both_true (bytes_eq g.name x.name.text) (same_types (types_of_params g.params) h.params) (is_that g e)).1
 
@@ -157,7 +158,7 @@ function_fine fs (syntax.declaration p x) v r ok h = subst AreFine h.2 (with_dec
 function_fine fs (syntax.definition p x body) v r ok h =
     let head = head_says fs true x h.0 h.1 in
     subst AreFine h.2.2 (with_defined (with_function fs x.name h.0) x h.0 body h.2.0 (with_declared fs true x h.0 ok head) head.params h.2.1 r
-      (is_there fs x.name h.0) (result_after fs true x h.0 head))
+    (is_there fs x.name h.0) (result_after fs true x h.0 head))
 function_fine fs (syntax.member_definition p class x body) v r ok h = absurd h
 function_fine fs (syntax.constructor_definition p class word params body) v r ok h = absurd h
 function_fine fs (syntax.method p at x body) v r ok h = absurd h

@@ -1,6 +1,6 @@
 -- The locals that statements number are of arithmetic types.
-use Rattle.std.proofs.Common.{◌≡◌, ℕ, List, [], ◌∷◌, ◌++◌, length, refl, sym, subst, ap, inl, inr}
-use Rattle.std.specs.Prelude.{Bool, true, false, Some}
+use Rattle.std.proofs.Common.{◌≡◌, List, [], ◌∷◌, ◌++◌, length, subst, inl, inr}
+use Rattle.std.specs.Prelude.{true}
 use Rattle.mm_classes.specs.declared.class.Ty.{Ty}
 use Rattle.mm_classes.specs.Lists.{Has, first, later}
 use Rattle.mm_classes.proofs.Lists.{Has-append}

@@ -9,24 +9,21 @@ ghost use Rattle.mm_typing_valid.specs.Statements.{TypedStmtIsValid, TypedStmtEx
 pub fn expressions()
     ensures typed { TypedIsValid }
     ensures typed_as { TypedAsIsValid }
-{
-}
+{}
 
-/// What a typed statement becomes is valid in its function, and it numbers its variables behind those before it.
+/// What a typed statement becomes is valid in its function, and it numbers its variables behind
+/// those before it.
 pub fn statements()
     ensures valid { TypedStmtIsValid }
     ensures extends { TypedStmtExtends }
-{
-}
+{}
 
 /// The program of a typed unit is valid.
 pub fn units()
     ensures { TypedUnitIsValid }
-{
-}
+{}
 
 /// A typed unit that defines `main` and all functions that are called is a whole program.
 pub fn programs()
     ensures { TypedUnitIsScalar }
-{
-}
+{}
