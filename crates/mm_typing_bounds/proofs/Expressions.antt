@@ -1,13 +1,12 @@
 -- How large the checked tree of a typed expression is.
-use Rattle.std.proofs.Common.{◌≡◌, ℕ, ◌+◌, ◌*◌, ◌<◌, ◌≤◌, max, List, [], ◌∷◌, refl, sym, subst, ap, ◌∙◌, inl, inr, arith}
-use Rattle.std.specs.Prelude.{Bool, true, false, ◌&&◌, ◌||◌, if◌then◌else◌, Option, Some, None, pos, nat_eq, slice_get}
+use Rattle.std.proofs.Common.{◌≡◌, ℕ, ◌+◌, ◌*◌, ◌≤◌, List, [], ◌∷◌, refl, subst, arith}
+use Rattle.std.specs.Prelude.{Bool, true, false, if◌then◌else◌, Option, Some, None, nat_eq}
 use Rattle.std.specs.List.{list_any}
 use Rattle.mm_base.specs.Num.{to_int}
 use Rattle.mm_classes.specs.declared.class.Ty.{Ty}
 use Rattle.mm_classes.specs.declared.class.Ty.TheVariants as ty
 use Rattle.mm_core.specs.declared.part.Operator.{Operator}
 use Rattle.mm_core.specs.declared.part.Operator.TheVariants as op
-use Rattle.mm_core.specs.declared.part.Target.TheVariants as target
 use Rattle.mm_core.specs.Heads.{same_type}
 use Rattle.mm_core.specs.Tree as k
 use Rattle.mm_core.specs.View.{exprs_of}
@@ -18,7 +17,6 @@ use Rattle.mm_scopes.specs.declared.head.FnHead.{FnHead}
 use Rattle.mm_syntax.specs.declared.name.Number.{Number}
 use Rattle.mm_syntax.specs.declared.name.UnaryOperator.{UnaryOperator}
 use Rattle.mm_syntax.specs.declared.name.UnaryOperator.TheVariants as unary
-use Rattle.mm_syntax.specs.declared.name.StepOperator.{StepOperator}
 use Rattle.mm_syntax.specs.Numbers.{is_unsigned}
 use Rattle.mm_syntax.specs.Tree as t
 use Rattle.mm_typing.specs.declared.typed.Kind.TheVariants as kind
@@ -30,7 +28,7 @@ use Rattle.mm_typing.specs.Typed.{Typed, typed, number_typed}
 use Rattle.mm_typing.specs.Conversions.{common, joined, convert_to, converted, converted_all}
 use Rattle.mm_typing.specs.Operators.{operation_of, assignment_of, change_of, operated, promoted, zero_of, one, set, changed}
 use Rattle.mm_typing.specs.Calls.{Candidate, function, builtin, params_in, call_in, function_call}
-use Rattle.mm_typing.specs.Typing.{UnaryTypes, StepTypes, OperationTypes, ChooseTypes, AssignTypes, Changes, CallTypes, Types, AreTyped}
+use Rattle.mm_typing.specs.Typing.{UnaryTypes, OperationTypes, AssignTypes, Changes, CallTypes, Types, AreTyped}
 use Rattle.mm_typing_bounds.specs.Sizes.{size, sizes}
 use Rattle.mm_typing_bounds.specs.Bounded.{IsBounded, TypedIsBounded}
 

@@ -60,7 +60,8 @@ module _ (n : ℕ) where
     StmtIsShort (t.if_else p e a b) = (size e ≤ n) × StmtIsShort a × StmtIsShort b
     StmtIsShort (t.while_do p e a) = (size e ≤ n) × StmtIsShort a
     StmtIsShort (t.do_while p a e) = StmtIsShort a × (size e ≤ n)
-    StmtIsShort (t.for_do p start c s a) = StartIsShort start × MaybeShort c × MaybeShort s × StmtIsShort a
+    StmtIsShort (t.for_do p start c s a) = StartIsShort start × MaybeShort c × MaybeShort s
+        × StmtIsShort a
     StmtIsShort (t.break p) = Unit {0}
     StmtIsShort (t.continue p) = Unit {0}
     StmtIsShort (t.return_nothing p) = Unit {0}
@@ -100,5 +101,6 @@ FunctionIsSmall n most other = Unit {0}
 
 abbrev pub DeclsAreSmall : ℕ → ℕ → List t.Decl → Type 0
 DeclsAreSmall n most [] = Unit {0}
-DeclsAreSmall n most (t.function_decl p x ∷ xs) = FunctionIsSmall n most x × DeclsAreSmall n most xs
+DeclsAreSmall n most (t.function_decl p x ∷ xs) = FunctionIsSmall n most x
+    × DeclsAreSmall n most xs
 DeclsAreSmall n most (t.class_decl p x ∷ xs) = DeclsAreSmall n most xs

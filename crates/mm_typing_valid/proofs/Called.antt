@@ -1,22 +1,17 @@
 -- A valid program stays valid where only defined functions may be called, if all that are called are defined.
-use Rattle.std.proofs.Common.{◌≡◌, ◌≢◌, ℕ, ◌<◌, List, [], ◌∷◌, ◌++◌, refl, sym, subst, ap, ap₂, ◌∙◌, inl, inr, arith}
-use Rattle.std.specs.Prelude.{Bool, true, false, IsTrue, if◌then◌else◌, length, Option, Some, None, slice_get}
+use Rattle.std.proofs.Common.{◌≡◌, ℕ, List, [], ◌++◌, refl, sym, ap, ◌∙◌, arith}
+use Rattle.std.specs.Prelude.{Bool, true, false, IsTrue, length, Option, Some, None, slice_get}
 use Rattle.mm_classes.specs.declared.class.Ty.{Ty}
 use Rattle.mm_classes.specs.Lists.{Has}
 use Rattle.mm_classes.specs.Classes.{Class}
-use Rattle.mm_core.specs.Heads.{class_shown, is_open, same_type, type_at}
+use Rattle.mm_core.specs.Heads.{is_open}
 use Rattle.mm_core.specs.Tree.{Expr, int, unsigned, bool, null, local, set_local, field, set_field, not_null, move, convert, binary, negation, both, either, choose, call, virtual_call, open_call, builtin, new, step_local, step_field, compound, Exprs, no_exprs, expr_and, Stmt, block, run, if_else, while_do, do_while, for_do, break, continue, return_nothing, return, make, Stmts, no_stmts, stmt_and, Function, Program}
-use Rattle.mm_core.specs.Run.{number_of_main}
 use Rattle.mm_core.specs.Units.{Checked}
-use Rattle.mm_core.specs.Valid.{Around, type_of, types_of, IsValid, AreValid, IsCalled, IsTest, IsValidStmt, AreValidStmts, sets, as_pointer, compares, shows}
-use Rattle.mm_core.specs.ValidProgram.{around, IsBody, BodyFits, numbers_below, IsValidFunction, IsValidProgram, IsMerged}
-use Rattle.mm_core.proofs.Entering.{slice-Has}
-use Rattle.mm_simulate.specs.Simulates.{IsScalar}
-use Rattle.mm_syntax.specs.Tree.{UnitTree}
-use Rattle.mm_unit_typing.specs.Units.{UnitTypes, unit_of}
-use Rattle.mm_typing_valid.specs.Called.{CallsOnly, AllCallOnly, StmtCallsOnly, StmtsCallOnly, IsDefinedAt, CalledAreDefined, TypedUnitIsScalar}
+use Rattle.mm_core.specs.Valid.{Around, type_of, types_of, IsValid, AreValid, IsTest, IsValidStmt, AreValidStmts, sets}
+use Rattle.mm_core.specs.ValidProgram.{around, IsBody, BodyFits, numbers_below, IsValidFunction, IsValidProgram}
+use Rattle.mm_typing_valid.specs.Called.{CallsOnly, AllCallOnly, StmtCallsOnly, StmtsCallOnly, CalledAreDefined, TypedUnitIsScalar}
 use Rattle.mm_typing_valid.proofs.Functions.{IsFine, no_virtual}
-use Rattle.mm_typing_valid.proofs.Units.{AreFine, unit_fine, typed_unit_is_valid}
+use Rattle.mm_typing_valid.proofs.Units.{unit_fine, typed_unit_is_valid}
 
 module _ (classes : List Class) (functions : List Function) (before after : Function → Bool) (locals : List Ty) (arguments : ℕ) where
   abbrev a : Around

@@ -1,6 +1,6 @@
 -- Calls of the chosen functions are valid.
-use Rattle.std.proofs.Common.{◌≡◌, ◌≢◌, ℕ, zero, suc, ◌<◌, List, [], ◌∷◌, ◌++◌, map, refl, sym, subst, ap, ◌∙◌, inl, inr, arith}
-use Rattle.std.specs.Prelude.{Bool, true, false, IsTrue, ◌&&◌, ◌||◌, if◌then◌else◌, Option, Some, None, is_some, option_map, slice_get, codes, filter, ◌⊎◌}
+use Rattle.std.proofs.Common.{◌≡◌, ℕ, zero, suc, List, [], ◌∷◌, map, refl, sym, subst, ap, ◌∙◌, inl, inr}
+use Rattle.std.specs.Prelude.{Bool, true, false, if◌then◌else◌, Option, Some, None, is_some, option_map, slice_get, codes, filter}
 use Rattle.std.specs.List.{list_any}
 use Rattle.std.specs.Str.{bytes_eq}
 use Rattle.std.proofs.lemmas.Option.{slice_get-map}
@@ -10,20 +10,17 @@ use Rattle.mm_classes.specs.declared.class.Ty.{Ty}
 use Rattle.mm_classes.specs.declared.class.Ty.TheVariants as ty
 use Rattle.mm_classes.specs.Lists.{Has, first, later}
 use Rattle.mm_classes.specs.Classes.{Class}
-use Rattle.mm_core.specs.Heads.{class_in, is_open, argument_types}
+use Rattle.mm_core.specs.Heads.{argument_types}
 use Rattle.mm_core.specs.Tree as k
 use Rattle.mm_core.specs.View.{exprs_of}
-use Rattle.mm_core.specs.Valid.{Around, is_arithmetic, types_asked, type_answered, result_of_function, type_of, types_of, IsValid, AreValid, Suits, AllSuit, IsCalled}
+use Rattle.mm_core.specs.Valid.{Around, is_arithmetic, types_asked, result_of_function, type_of, types_of, AreValid, AllSuit}
 use Rattle.mm_overload.specs.Rank.{rank_from, rank_of}
-use Rattle.mm_overload.specs.Choice.{viable, IsBest, IsChoice}
-use Rattle.mm_overload.specs.declared.choice.Best.TheVariants as best
-use Rattle.mm_scopes.specs.declared.head.Var.{Var}
+use Rattle.mm_overload.specs.Choice.{viable, IsBest}
 use Rattle.mm_scopes.specs.declared.head.FnHead.{FnHead}
 use Rattle.mm_scopes.specs.Environment.{Environment}
 use Rattle.mm_scopes.specs.Names.{named}
 use Rattle.mm_syntax.specs.Tree as t
-use Rattle.mm_typing.specs.declared.typed.Kind.TheVariants as kind
-use Rattle.mm_typing.specs.Typed.{Typed, typed, arg_of}
+use Rattle.mm_typing.specs.Typed.{Typed, arg_of}
 use Rattle.mm_typing.specs.Conversions.{converts, converted, converted_all}
 use Rattle.mm_typing.specs.Calls.{Candidate, function, builtin, params_in, result_in, function_call, call_in, call_of, builtin_of, declared_or, declared, callable}
 use Rattle.mm_typing.specs.Typing.{NameCalls, Calls}

@@ -1,15 +1,15 @@
 -- Conversions are valid, and give the type that is asked.
-use Rattle.std.proofs.Common.{◌≡◌, ◌≢◌, ℕ, ◌<◌, List, refl, sym, subst, ap, ◌∙◌, inl, inr, arith}
-use Rattle.std.specs.Prelude.{Bool, true, false, IsTrue, ◌&&◌, ◌||◌, if◌then◌else◌, Option, Some, None, pos, ◌⊎◌}
+use Rattle.std.proofs.Common.{◌≡◌, ◌≢◌, ℕ, List, refl, sym, subst, ap, ◌∙◌, inl, arith}
+use Rattle.std.specs.Prelude.{Bool, true, false, IsTrue, ◌&&◌, ◌||◌, if◌then◌else◌}
 use Rattle.mm_classes.specs.declared.class.Ty.{Ty}
 use Rattle.mm_classes.specs.declared.class.Ty.TheVariants as ty
 use Rattle.mm_core.specs.declared.part.Operator.{Operator}
-use Rattle.mm_core.specs.Heads.{class_in, is_reference, same_type, type_at}
+use Rattle.mm_core.specs.Heads.{is_reference, same_type}
 use Rattle.mm_core.specs.Tree as k
 use Rattle.mm_core.specs.declared.part.Target.{Target}
 use Rattle.mm_core.specs.declared.part.Target.TheVariants as target
-use Rattle.mm_core.specs.Valid.{Around, is_number, is_arithmetic, as_pointer, compares, type_of_target, type_of, IsValid, Converts, Suits}
-use Rattle.mm_typing.specs.Typed.{Typed, typed}
+use Rattle.mm_core.specs.Valid.{Around, is_number, is_arithmetic, as_pointer, compares, type_of_target, Suits}
+use Rattle.mm_typing.specs.Typed.{Typed}
 use Rattle.mm_typing.specs.Conversions.{is_unsigned_type, is_void, common, joined, converts, convert_to, converted}
 use Rattle.mm_typing.specs.Operators.{result_of, zero_of}
 use Rattle.mm_typing_valid.specs.Seen.{IsPlain}

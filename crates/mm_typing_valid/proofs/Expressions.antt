@@ -1,17 +1,15 @@
 -- What is typed is a valid checked tree of its type.
-use Rattle.std.proofs.Common.{◌≡◌, ◌≢◌, ℕ, ◌<◌, ◌^◌, ◌-◌, List, [], ◌∷◌, ◌++◌, map, refl, sym, subst, ap, ◌∙◌, inl, inr, arith}
-use Rattle.std.specs.Prelude.{Bool, true, false, IsTrue, ◌&&◌, ◌||◌, if◌then◌else◌, Option, Some, None, pos, negsuc, nat_eq, length, ◌⊎◌}
+use Rattle.std.proofs.Common.{◌≡◌, ◌≢◌, ℕ, ◌<◌, ◌^◌, List, [], ◌∷◌, ◌++◌, refl, sym, subst, ap, ◌∙◌, inl, arith}
+use Rattle.std.specs.Prelude.{Bool, true, false, IsTrue, ◌&&◌, ◌||◌, if◌then◌else◌, Option, Some, None, nat_eq, length}
 use Rattle.mm_base.specs.Num.{is_int, to_int}
 use Rattle.mm_classes.specs.declared.class.Ty.{Ty}
 use Rattle.mm_classes.specs.declared.class.Ty.TheVariants as ty
 use Rattle.mm_classes.specs.Lists.{Has, first, later}
 use Rattle.mm_core.specs.declared.part.Operator.{Operator}
 use Rattle.mm_core.specs.declared.part.Operator.TheVariants as op
-use Rattle.mm_core.specs.declared.part.Change.{Change}
-use Rattle.mm_core.specs.Heads.{class_in, is_reference, same_type, type_at}
+use Rattle.mm_core.specs.Heads.{is_reference, same_type, type_at}
 use Rattle.mm_core.specs.Tree as k
-use Rattle.mm_core.specs.Valid.{Around, is_number, is_arithmetic, as_pointer, compares, type_of, IsValid, IsKnown, AreOperands}
-use Rattle.mm_overload.specs.declared.choice.Best.TheVariants as best
+use Rattle.mm_core.specs.Valid.{Around, is_number, is_arithmetic, as_pointer, compares, type_of}
 use Rattle.mm_scopes.specs.declared.head.Var.{Var}
 use Rattle.mm_scopes.specs.Environment.{Environment}
 use Rattle.mm_scopes.specs.Names.{Means}
@@ -21,7 +19,6 @@ use Rattle.mm_syntax.specs.declared.name.UnaryOperator.TheVariants as unary
 use Rattle.mm_syntax.specs.declared.name.StepOperator.{StepOperator}
 use Rattle.mm_syntax.specs.Numbers.{is_unsigned}
 use Rattle.mm_syntax.specs.Tree as t
-use Rattle.mm_typing.specs.declared.typed.Kind.{Kind}
 use Rattle.mm_typing.specs.declared.typed.Kind.TheVariants as kind
 use Rattle.mm_typing.specs.declared.typed.Operation.{Operation}
 use Rattle.mm_typing.specs.declared.typed.Operation.TheVariants as operation
@@ -29,13 +26,13 @@ use Rattle.mm_typing.specs.declared.typed.Assignment.{Assignment}
 use Rattle.mm_typing.specs.declared.typed.Assignment.TheVariants as assignment
 use Rattle.mm_typing.specs.Typed.{Typed, typed, number_typed, local_typed}
 use Rattle.mm_typing.specs.Conversions.{is_void, common, joined, converts, converted}
-use Rattle.mm_typing.specs.Operators.{operation_of, assignment_of, change_of, result_of, operated, promoted, zero_of, plus, minus, negated, both_of, either_of, are_branches, chosen, set, changed, one, stepped}
+use Rattle.mm_typing.specs.Operators.{operation_of, assignment_of, change_of, result_of, operated, promoted, zero_of, minus, chosen, set, changed, one}
 use Rattle.mm_typing.specs.Calls.{Candidate}
-use Rattle.mm_typing.specs.Typing.{UnaryTypes, StepTypes, OperationTypes, ChooseTypes, AssignTypes, Changes, Calls, CallTypes, Types, AreTyped, TypesAs}
+use Rattle.mm_typing.specs.Typing.{UnaryTypes, StepTypes, OperationTypes, ChooseTypes, AssignTypes, Changes, Calls, CallTypes, Types, AreTyped}
 use Rattle.mm_typing_valid.specs.Numbers.{IsInRange, AreInRange}
 use Rattle.mm_typing_valid.specs.Seen.{IsPlain, IsSeen, IsVarOf}
 use Rattle.mm_typing_valid.specs.Expressions.{IsOf, IsSound, TypedIsValid, TypedAsIsValid}
-use Rattle.mm_typing_valid.proofs.Conversions.{both_true, are_both, no_void, no_reference, arithmetic_plain, number_arithmetic, void_is, common_number, joined_arithmetic, result_arithmetic, alone, converted_is, becomes, zero_is, suits}
+use Rattle.mm_typing_valid.proofs.Conversions.{both_true, no_void, no_reference, arithmetic_plain, number_arithmetic, void_is, common_number, joined_arithmetic, result_arithmetic, alone, converted_is, becomes, zero_is, suits}
 use Rattle.mm_typing_valid.proofs.Calls.{AllSound, chosen_valid}
 
 signed_is : (n : ℕ) → is_int (to_int n) ≡ true

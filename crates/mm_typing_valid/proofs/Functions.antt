@@ -1,28 +1,28 @@
 -- Lists of functions, and functions that are the same but for their bodies.
-use Rattle.std.proofs.Common.{◌≡◌, ◌≢◌, ℕ, zero, suc, ◌+◌, ◌<◌, ◌≤◌, List, [], ◌∷◌, ◌++◌, length, map, refl, sym, subst, ap, ◌∙◌, inl, inr, arith}
-use Rattle.std.specs.Prelude.{Bool, true, false, not, ◌&&◌, ◌||◌, ◌⊎◌, IsTrue, if◌then◌else◌, Option, Some, None, slice_get, get_or, drop, All, AllPairs}
-use Rattle.std.specs.List.{list_any, position_or_len, count_by}
+use Rattle.std.proofs.Common.{◌≡◌, ℕ, zero, suc, ◌+◌, ◌<◌, ◌≤◌, List, [], ◌∷◌, ◌++◌, length, map, refl, sym, subst, ap, ◌∙◌, inl, inr, arith}
+use Rattle.std.specs.Prelude.{Bool, true, false, not, ◌&&◌, ◌||◌, ◌⊎◌, IsTrue, if◌then◌else◌, Some, slice_get, get_or, AllPairs}
+use Rattle.std.specs.List.{list_any, position_or_len}
 use Rattle.std.specs.Str.{bytes_eq}
 use Rattle.std.proofs.lemmas.Slice.Eq.{bytes_eq-Decides}
 use Rattle.std.proofs.lemmas.List.Folds.{list_any-append}
 use Rattle.std.proofs.lemmas.List.Quantifiers.{all_pairs_push}
-use Rattle.std.proofs.lemmas.Option.{slice_get_within, get_or_from_slice_get, slice_get-get_or}
+use Rattle.std.proofs.lemmas.Option.{get_or_from_slice_get, slice_get-get_or}
 use Rattle.mm_classes.specs.declared.class.Ty.{Ty}
 use Rattle.mm_classes.specs.Lists.{Has, first, later}
 use Rattle.mm_classes.proofs.Lists.{Has-append}
 use Rattle.mm_core.specs.declared.part.CoreParam.{CoreParam}
-use Rattle.mm_core.specs.Heads.{type_code, same_type, same_types, types_of_params, is_open, argument_types}
+use Rattle.mm_core.specs.Heads.{type_code, same_type, same_types, types_of_params, argument_types}
 use Rattle.mm_core.specs.Tree as k
 use Rattle.mm_core.specs.Valid.{Around, is_arithmetic}
-use Rattle.mm_core.specs.ValidProgram.{around, AreApart, BodyFits}
-use Rattle.mm_core.proofs.Entering.{same_types_is, slice-Has}
+use Rattle.mm_core.specs.ValidProgram.{AreApart}
+use Rattle.mm_core.proofs.Entering.{slice-Has}
 use Rattle.mm_core.proofs.Returning.{same_is}
 use Rattle.mm_scopes.specs.declared.head.FnHead.{FnHead}
 use Rattle.mm_syntax.specs.declared.name.Name.{Name}
 use Rattle.mm_unit_typing.specs.Declarators.{is_reserved}
-use Rattle.mm_unit_typing.specs.Functions.{Heading, is_function, clashes, may_declare, number_of, core_param, declared_function, with_function, defined_with, with_body, never, head_of, heads_from}
+use Rattle.mm_unit_typing.specs.Functions.{Heading, is_function, clashes, may_declare, core_param, declared_function, with_function, defined_with, with_body, never, head_of, heads_from}
 use Rattle.mm_typing_valid.specs.Seen.{IsPlain, ArePlain, IsHeadOf}
-use Rattle.mm_typing_valid.proofs.Conversions.{both_true, arithmetic_plain}
+use Rattle.mm_typing_valid.proofs.Conversions.{arithmetic_plain}
 use Rattle.mm_typing_valid.proofs.Variables.{AllArithmetic}
 use Rattle.mm_typing_valid.proofs.Heads.{params_types, params_count, params_are}
 

@@ -1,12 +1,11 @@
 -- What a typed head says.
-use Rattle.std.proofs.Common.{◌≡◌, ◌≢◌, ℕ, zero, suc, ◌+◌, ◌<◌, ◌≤◌, List, [], ◌∷◌, ◌++◌, length, map, refl, sym, subst, ap, ◌∙◌, inl, inr, arith}
-use Rattle.std.specs.Prelude.{Bool, true, false, not, ◌&&◌, ◌||◌, IsTrue, nat_lt, nat_eq, Option, Some, None}
-use Rattle.std.specs.List.{list_any}
+use Rattle.std.proofs.Common.{◌≡◌, ℕ, suc, ◌+◌, ◌≤◌, List, [], ◌∷◌, ◌++◌, length, map, refl, sym, subst, ap, ◌∙◌, arith}
+use Rattle.std.specs.Prelude.{Bool, true, false, not, nat_lt, Option, Some, None}
 use Rattle.std.proofs.lemmas.Bool.Decides.{nat_tests}
 use Rattle.mm_classes.specs.declared.class.Ty.{Ty}
 use Rattle.mm_classes.specs.Lists.{Has, first, later}
 use Rattle.mm_core.specs.declared.part.CoreParam.{CoreParam}
-use Rattle.mm_core.specs.Heads.{type_at, types_of_params}
+use Rattle.mm_core.specs.Heads.{types_of_params}
 use Rattle.mm_core.specs.Tree as k
 use Rattle.mm_core.specs.Valid.{Around, is_arithmetic}
 use Rattle.mm_scopes.specs.declared.head.Var.{Var}
@@ -17,11 +16,11 @@ use Rattle.mm_syntax.specs.declared.expr.TypeName.{TypeName}
 use Rattle.mm_syntax.specs.declared.decl.Param.{Param}
 use Rattle.mm_syntax.specs.declared.decl.Head.{Head}
 use Rattle.mm_unit_typing.specs.Declarators.{holds_value, is_reserved}
-use Rattle.mm_unit_typing.specs.Scopes.{variable, type_or_void, type_named, parameter_named, parameter, parameters_from}
-use Rattle.mm_unit_typing.specs.Functions.{Heading, heading, MayBeParameter, ParamType, ParamsType, core_param, may_declare, HeadTypes, few_params}
+use Rattle.mm_unit_typing.specs.Scopes.{type_or_void, type_named, parameter_named, parameter, parameters_from}
+use Rattle.mm_unit_typing.specs.Functions.{Heading, MayBeParameter, ParamType, ParamsType, core_param, may_declare, HeadTypes}
 use Rattle.mm_typing_valid.specs.Seen.{IsPlain, IsVarOf}
 use Rattle.mm_typing_valid.specs.Statements.{Begins}
-use Rattle.mm_typing_valid.proofs.Locals.{scalar_plain, holds_arithmetic, without_last, at_end, length-last, with_vars, AllVars}
+use Rattle.mm_typing_valid.proofs.Locals.{scalar_plain, holds_arithmetic, at_end, length-last, with_vars, AllVars}
 use Rattle.mm_typing_valid.proofs.Variables.{AllArithmetic}
 
 -- ---- parameters

@@ -1,6 +1,6 @@
 -- The locals of a function are numbered in the order of their declarations, and stay.
-use Rattle.std.proofs.Common.{◌≡◌, ◌≢◌, ℕ, zero, suc, ◌+◌, ◌<◌, List, [], ◌∷◌, ◌++◌, length, refl, sym, subst, ap, ◌∙◌, inl, inr, arith}
-use Rattle.std.specs.Prelude.{Bool, true, false, not, IsTrue, ◌⊎◌, Option, Some, None}
+use Rattle.std.proofs.Common.{◌≡◌, ◌≢◌, ℕ, ◌+◌, ◌<◌, List, [], ◌∷◌, ◌++◌, length, refl, sym, subst, ap, ◌∙◌, inl, inr, arith}
+use Rattle.std.specs.Prelude.{true, false, not, ◌⊎◌, Option, Some, None}
 use Rattle.mm_classes.specs.declared.class.Ty.{Ty}
 use Rattle.mm_classes.specs.declared.class.Ty.TheVariants as ty
 use Rattle.mm_classes.specs.Lists.{Has, first, later}
@@ -9,16 +9,15 @@ use Rattle.mm_core.specs.Tree as k
 use Rattle.mm_core.specs.Valid.{Around, is_arithmetic}
 use Rattle.mm_scopes.specs.declared.head.Var.{Var}
 use Rattle.mm_scopes.specs.Environment.{Environment}
-use Rattle.mm_syntax.specs.declared.name.Name.{Name}
 use Rattle.mm_syntax.specs.declared.name.DeclaratorMark.{DeclaratorMark}
 use Rattle.mm_syntax.specs.declared.expr.TypeNameKind.{TypeNameKind}
 use Rattle.mm_syntax.specs.declared.expr.TypeNameKind.TheVariants as type
 use Rattle.mm_syntax.specs.Tree as syntax
 use Rattle.mm_typing.specs.Conversions.{is_void}
 use Rattle.mm_unit_typing.specs.declared.here.Here.{Here}
-use Rattle.mm_unit_typing.specs.Declarators.{scalar_of, Names, holds_value}
-use Rattle.mm_unit_typing.specs.Scopes.{variable, type_or_void, type_named, variables_from, declared_by, declared, started, within, turn_within, behind, behind_start}
-use Rattle.mm_unit_typing.specs.Made.{Made, made, is_block, nodes_of}
+use Rattle.mm_unit_typing.specs.Declarators.{scalar_of, holds_value}
+use Rattle.mm_unit_typing.specs.Scopes.{variable, type_or_void, type_named, variables_from, declared_by, within, turn_within, behind, behind_start}
+use Rattle.mm_unit_typing.specs.Made.{Made}
 use Rattle.mm_unit_typing.specs.Statements.{Begins as Starts, AllBegin, VariablesType, StartTypes, StmtTypes, StmtsType}
 use Rattle.mm_typing_valid.specs.Seen.{IsPlain, IsVarOf}
 use Rattle.mm_typing_valid.specs.Statements.{Begins}
@@ -104,9 +103,11 @@ module _ (env : Environment) where
     stmt_extends here vs locals (syntax.while_do p e a) v h = subst (λ (w : Made (List k.Stmt)). Begins locals w.locals) h.2.2 (stmt_extends (turn_within here vs) vs locals a h.2.0 h.2.1)
     stmt_extends here vs locals (syntax.do_while p a e) v h = subst (λ (w : Made (List k.Stmt)). Begins locals w.locals) h.2.2 (stmt_extends (turn_within here vs) vs locals a h.0 h.1)
     stmt_extends here vs locals (syntax.for_do p start c s a) v h =
+        let g = h.2.1.2.2 in
         let x = start_extends (within here vs) vs locals start h.0 h.1 in
-        let y = stmt_extends (turn_within here (behind_start vs locals start)) (behind_start vs locals start) h.0.locals a h.2.2.2.0 h.2.2.2.1 in
-        subst (λ (w : Made (List k.Stmt)). Begins locals w.locals) h.2.2.2.2 (further locals h.0.locals h.2.2.2.0.locals x y)
+        let y = stmt_extends (turn_within here (behind_start vs locals start)) (behind_start vs locals start) h.0.locals a g.0 g.1 in
+        let z = subst (λ (w : Made k.Stmt). Begins locals w.locals) g.2 (further locals h.0.locals g.0.locals x y) in
+        subst (λ (w : Made (List k.Stmt)). Begins locals w.locals) h.2.2 z
     stmt_extends here vs locals (syntax.break p) v h = subst (λ (w : Made (List k.Stmt)). Begins locals w.locals) h.2 (itself locals)
     stmt_extends here vs locals (syntax.continue p) v h = subst (λ (w : Made (List k.Stmt)). Begins locals w.locals) h.2 (itself locals)
     stmt_extends here vs locals (syntax.return_nothing p) v h = subst (λ (w : Made (List k.Stmt)). Begins locals w.locals) h.2 (itself locals)

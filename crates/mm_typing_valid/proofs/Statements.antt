@@ -1,31 +1,31 @@
 -- What statements are typed as is valid.
-use Rattle.std.proofs.Common.{◌≡◌, ◌≢◌, ℕ, ◌<◌, List, [], ◌∷◌, ◌++◌, length, refl, sym, subst, ap, ◌∙◌, inl, inr, arith}
-use Rattle.std.specs.Prelude.{Bool, true, false, not, IsTrue, if◌then◌else◌, Option, Some, None, pos}
+use Rattle.std.proofs.Common.{◌≡◌, ◌≢◌, ℕ, List, [], ◌∷◌, ◌++◌, length, refl, sym, subst, ap, ◌∙◌, arith}
+use Rattle.std.specs.Prelude.{Bool, true, false, not, IsTrue, if◌then◌else◌, Option, Some, None}
 use Rattle.mm_classes.specs.declared.class.Ty.{Ty}
 use Rattle.mm_classes.specs.declared.class.Ty.TheVariants as ty
 use Rattle.mm_classes.specs.Lists.{Has, first, later}
 use Rattle.mm_core.specs.Heads.{type_at}
 use Rattle.mm_core.specs.Tree as k
 use Rattle.mm_core.specs.View.{stmts_of}
-use Rattle.mm_core.specs.Valid.{Around, is_arithmetic, type_of, IsValid, IsTest, sets, IsValidStmt, AreValidStmts, is_step}
+use Rattle.mm_core.specs.Valid.{Around, is_arithmetic, type_of, IsTest, sets, AreValidStmts, is_step}
 use Rattle.mm_scopes.specs.declared.head.Var.{Var}
 use Rattle.mm_scopes.specs.declared.head.FnHead.{FnHead}
 use Rattle.mm_scopes.specs.Environment.{Environment}
 use Rattle.mm_syntax.specs.Tree as syntax
 use Rattle.mm_typing.specs.Typed.{Typed}
 use Rattle.mm_typing.specs.Typing.{Types, TypesAs}
-use Rattle.mm_typing.specs.Conversions.{is_void, converts, converted, Becomes}
+use Rattle.mm_typing.specs.Conversions.{is_void}
 use Rattle.mm_unit_typing.specs.declared.here.Here.{Here}
 use Rattle.mm_unit_typing.specs.Scopes.{inside, variable, within, turn_within, behind, behind_start}
-use Rattle.mm_unit_typing.specs.Made.{Made, made, zero_of, block_of, is_block, nodes_of}
+use Rattle.mm_unit_typing.specs.Made.{Made, zero_of, block_of, is_block, nodes_of}
 use Rattle.mm_unit_typing.specs.Statements.{Begins as Starts, AllBegin, StartTypes, TestTypes, StepTypes, StmtTypes, StmtsType}
 use Rattle.mm_typing_valid.specs.Numbers.{IsInRange, InitializerInRange, DeclaratorsInRange, StartInRange, MaybeInRange, StmtInRange, StmtsInRange}
 use Rattle.mm_typing_valid.specs.Seen.{IsPlain, IsVarOf, IsHeadOf, IsSeen}
-use Rattle.mm_typing_valid.specs.Expressions.{IsOf, IsSound}
+use Rattle.mm_typing_valid.specs.Expressions.{IsOf}
 use Rattle.mm_typing_valid.specs.Statements.{IsValidAt, AreValidAt, Begins, TypedStmtIsValid, TypedStmtExtends}
-use Rattle.mm_typing_valid.proofs.Conversions.{both_true, no_void, void_is as void_here, converted_is, suits}
+use Rattle.mm_typing_valid.proofs.Conversions.{no_void, void_is as void_here, suits}
 use Rattle.mm_typing_valid.proofs.Expressions.{valid_of, typed_as_is_valid}
-use Rattle.mm_typing_valid.proofs.Locals.{further, at_end, scalar_plain, holds_arithmetic, begins_extend, start_extends, stmt_extends, stmts_extend, AllVars, may_begin, var_at, with_vars, vars_behind, vars_started}
+use Rattle.mm_typing_valid.proofs.Locals.{further, at_end, scalar_plain, holds_arithmetic, begins_extend, stmt_extends, stmts_extend, AllVars, may_begin, var_at, with_vars, vars_behind, vars_started}
 
 zero_valid : (a : Around) (known : List ℕ) (t : Ty) → is_arithmetic t ≡ true → IsOf a known (zero_of t) t
 zero_valid a known ty.Void e = cc
@@ -141,16 +141,18 @@ module _ (a : Around) (result : Ty) where
           subst (λ (w : Made (List k.Stmt)). AreValidAt a result here.in_loop w.tree) h.2.2
           ((λ known. (stmts_valid true h.0.tree known x, as_valid vs ty.Bool e h.2.0 f r.1 h.2.1 known)), tt)
       stmt_valid here same vs locals (syntax.for_do p start c s u) v f r b h =
-          let stays = subst (λ (w : Made (List k.Stmt)). Begins w.locals a.locals) (sym h.2.2.2.2) b in
+          let g = h.2.1.2.2 in
           let all = behind_start vs locals start in
-          let first = further h.0.locals h.2.2.2.0.locals a.locals (stmt_extends env (turn_within here all) all h.0.locals u h.2.2.2.0 h.2.2.2.1) stays in
-          let g = vars_started env a (within here vs) vs locals start h.0 f first h.1 in
+          let stays = subst (λ (w : Made k.Stmt). Begins w.locals a.locals) (sym g.2) (subst (λ (w : Made (List k.Stmt)). Begins w.locals a.locals) (sym h.2.2) b) in
+          let first = further h.0.locals g.0.locals a.locals (stmt_extends env (turn_within here all) all h.0.locals u g.0 g.1) stays in
+          let vars = vars_started env a (within here vs) vs locals start h.0 f first h.1 in
           let x = start_valid (within here vs) vs locals start h.0 here.in_loop f r.0 first h.1 in
-          let step = step_valid all s h.2.2.0 true g r.2 h.2.2.1 in
-          let y = stmt_valid (turn_within here all) same all h.0.locals u h.2.2.2.0 g r.3 stays h.2.2.2.1 in
-          subst (λ (w : Made (List k.Stmt)). AreValidAt a result here.in_loop w.tree) h.2.2.2.2
-          (both_valid here.in_loop h.0.tree (k.for_do h.2.0 h.2.2.0 (stmts_of h.2.2.2.0.tree) ∷ []) x
-          ((λ known. (test_valid all c h.2.0 g r.1 h.2.1 known, step.0, step.1 known, stmts_valid true h.2.2.2.0.tree known y)), tt))
+          let step = step_valid all s h.2.1.2.0 true vars r.2 h.2.1.2.1 in
+          let y = stmt_valid (turn_within here all) same all h.0.locals u g.0 vars r.3 stays g.1 in
+          let loop = subst (λ (w : Made k.Stmt). IsValidAt a result here.in_loop w.tree) g.2
+          (λ known. (test_valid all c h.2.1.0 vars r.1 h.2.1.1 known, step.0, step.1 known, stmts_valid true g.0.tree known y)) in
+          subst (λ (w : Made (List k.Stmt)). AreValidAt a result here.in_loop w.tree) h.2.2
+          (both_valid here.in_loop h.0.tree (h.2.0.tree ∷ []) x (loop, tt))
       stmt_valid here same vs locals (syntax.break p) v f r b h = subst (λ (w : Made (List k.Stmt)). AreValidAt a result here.in_loop w.tree) h.2 ((λ known. h.1), tt)
       stmt_valid here same vs locals (syntax.continue p) v f r b h = subst (λ (w : Made (List k.Stmt)). AreValidAt a result here.in_loop w.tree) h.2 ((λ known. h.1), tt)
       stmt_valid here same vs locals (syntax.return_nothing p) v f r b h = subst (λ (w : Made (List k.Stmt)). AreValidAt a result here.in_loop w.tree) h.2 ((λ known. same ∙ void_here here.result h.1), tt)

@@ -1,36 +1,31 @@
 -- What typed units are is valid.
-use Rattle.std.proofs.Common.{◌≡◌, ◌≢◌, ℕ, zero, suc, ◌+◌, ◌<◌, ◌≤◌, List, [], ◌∷◌, ◌++◌, length, map, refl, sym, subst, ap, ◌∙◌, inl, inr, arith}
-use Rattle.std.specs.Prelude.{Bool, true, false, not, ◌&&◌, ◌⊎◌, IsTrue, if◌then◌else◌, Option, Some, None, slice_get, drop, AllPairs}
+use Rattle.std.proofs.Common.{◌≡◌, ℕ, zero, suc, List, [], ◌∷◌, ◌++◌, length, refl, sym, subst, ap, ◌∙◌, inl, inr, arith}
+use Rattle.std.specs.Prelude.{Bool, true, false, Some, slice_get, drop, AllPairs}
 use Rattle.std.specs.List.{list_any, count_by}
 use Rattle.std.specs.Str.{bytes_eq}
 use Rattle.mm_classes.specs.declared.class.Ty.{Ty}
-use Rattle.mm_classes.specs.declared.class.Ty.TheVariants as ty
 use Rattle.mm_classes.specs.Lists.{Has, first, later}
-use Rattle.mm_classes.specs.Classes.{Class, IsClassList}
+use Rattle.mm_classes.specs.Classes.{IsClassList}
 use Rattle.mm_core.specs.declared.part.CoreParam.{CoreParam}
-use Rattle.mm_core.specs.Heads.{class_in, same_types, types_of_params, argument_types, local_types}
+use Rattle.mm_core.specs.Heads.{same_types, types_of_params}
 use Rattle.mm_core.specs.Tree as k
 use Rattle.mm_core.specs.Units.{Checked}
 use Rattle.mm_core.specs.Valid.{Around, is_arithmetic}
-use Rattle.mm_core.specs.ValidProgram.{IsDeclared, IsType, IsVariable, IsParam, numbers_below, around, BodyFits, IsValidFunction, AreApart, IsValidProgram, IsValidUnit}
+use Rattle.mm_core.specs.ValidProgram.{IsDeclared, IsVariable, numbers_below, around, BodyFits, IsValidFunction, AreApart, IsValidUnit}
 use Rattle.mm_core.proofs.Entering.{same_types_is, slice-Has}
-use Rattle.mm_scopes.specs.declared.head.FnHead.{FnHead}
-use Rattle.mm_syntax.specs.declared.name.Name.{Name}
 use Rattle.mm_syntax.specs.declared.decl.Head.{Head}
 use Rattle.mm_syntax.specs.Tree as syntax
-use Rattle.mm_unit_typing.specs.Declarators.{is_reserved}
 use Rattle.mm_unit_typing.specs.Scopes.{parameters_from}
 use Rattle.mm_unit_typing.specs.Made.{Made, block_of}
-use Rattle.mm_unit_typing.specs.Functions.{Heading, ParamsType, is_function, number_of, declared_function, with_function, defined_with, with_body, seen}
-use Rattle.mm_unit_typing.specs.Units.{body_here, BodyTypes, defined, FunctionTypes, DeclTypes, DeclsType, unit_of, UnitTypes}
+use Rattle.mm_unit_typing.specs.Functions.{Heading, ParamsType, is_function, number_of, with_function, defined_with, with_body, seen}
+use Rattle.mm_unit_typing.specs.Units.{body_here, BodyTypes, FunctionTypes, DeclsType, UnitTypes}
 use Rattle.mm_typing_valid.specs.Numbers.{StmtInRange, FunctionInRange, DeclsInRange}
-use Rattle.mm_typing_valid.specs.Seen.{IsPlain}
 use Rattle.mm_typing_valid.specs.Statements.{Begins, AreValidAt}
 use Rattle.mm_typing_valid.specs.Units.{TypedUnitIsValid}
 use Rattle.mm_typing_valid.proofs.Conversions.{both_true, no_void, arithmetic_plain}
 use Rattle.mm_typing_valid.proofs.Locals.{itself, further, stmt_extends}
 use Rattle.mm_typing_valid.proofs.Statements.{stmts_valid, typed_stmt_is_valid}
-use Rattle.mm_typing_valid.proofs.Variables.{AllArithmetic, stmt_types}
+use Rattle.mm_typing_valid.proofs.Variables.{stmt_types}
 use Rattle.mm_typing_valid.proofs.Heads.{params_arithmetic, params_vars, IsHeading, head_says}
 use Rattle.mm_typing_valid.proofs.Functions.{Extends, extends_itself, extends_then, extends_body, extends_declared, from_body, from_declared, at_number, is_there, same_result, IsFine, arguments_are, seen_heads, declared_fine, declared_apart, body_apart}
 

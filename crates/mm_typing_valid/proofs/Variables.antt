@@ -1,6 +1,6 @@
 -- The locals that statements number are of arithmetic types.
-use Rattle.std.proofs.Common.{◌≡◌, ℕ, List, [], ◌∷◌, ◌++◌, length, refl, sym, subst, ap, inl, inr}
-use Rattle.std.specs.Prelude.{Bool, true, false, Some}
+use Rattle.std.proofs.Common.{◌≡◌, List, [], ◌∷◌, ◌++◌, length, subst, inl, inr}
+use Rattle.std.specs.Prelude.{true}
 use Rattle.mm_classes.specs.declared.class.Ty.{Ty}
 use Rattle.mm_classes.specs.Lists.{Has, first, later}
 use Rattle.mm_classes.proofs.Lists.{Has-append}
@@ -46,7 +46,9 @@ module _ (env : Environment) (a : Around) where
     stmt_types here vs locals (syntax.while_do p e s) v f h = subst (λ (w : Made (List k.Stmt)). AllArithmetic w.locals) h.2.2 (stmt_types (turn_within here vs) vs locals s h.2.0 f h.2.1)
     stmt_types here vs locals (syntax.do_while p s e) v f h = subst (λ (w : Made (List k.Stmt)). AllArithmetic w.locals) h.2.2 (stmt_types (turn_within here vs) vs locals s h.0 f h.1)
     stmt_types here vs locals (syntax.for_do p start c s u) v f h =
-        subst (λ (w : Made (List k.Stmt)). AllArithmetic w.locals) h.2.2.2.2 (stmt_types (turn_within here (behind_start vs locals start)) (behind_start vs locals start) h.0.locals u h.2.2.2.0 (start_types (within here vs) vs locals start h.0 f h.1) h.2.2.2.1)
+        let g = h.2.1.2.2 in
+        let y = stmt_types (turn_within here (behind_start vs locals start)) (behind_start vs locals start) h.0.locals u g.0 (start_types (within here vs) vs locals start h.0 f h.1) g.1 in
+        subst (λ (w : Made (List k.Stmt)). AllArithmetic w.locals) h.2.2 (subst (λ (w : Made k.Stmt). AllArithmetic w.locals) g.2 y)
     stmt_types here vs locals (syntax.break p) v f h = subst (λ (w : Made (List k.Stmt)). AllArithmetic w.locals) h.2 f
     stmt_types here vs locals (syntax.continue p) v f h = subst (λ (w : Made (List k.Stmt)). AllArithmetic w.locals) h.2 f
     stmt_types here vs locals (syntax.return_nothing p) v f h = subst (λ (w : Made (List k.Stmt)). AllArithmetic w.locals) h.2 f

@@ -1,5 +1,6 @@
--- Which functions are called in a body. (ISO/IEC 14882:1998, 3.2/3: each of them is to be defined.)
-use Rattle.std.specs.Prelude.{◌≡◌, ℕ, ◌<◌, IsTrue, Option, Some, length, slice_get}
+-- Which functions are called in a body. (ISO/IEC 14882:1998, 3.2/3: each of them is to be
+-- defined.)
+use Rattle.std.specs.Prelude.{◌≡◌, ℕ, ◌<◌, IsTrue, Some, length, slice_get}
 use Rattle.mm_classes.specs.Lists.{Has}
 use Rattle.mm_core.specs.Tree.{Expr, int, unsigned, bool, null, local, set_local, field, set_field, not_null, move, convert, binary, negation, both, either, choose, call, virtual_call, open_call, builtin, new, step_local, step_field, compound, Exprs, no_exprs, expr_and, Stmt, block, run, if_else, while_do, do_while, for_do, break, continue, return_nothing, return, make, Stmts, no_stmts, stmt_and, Function, Program}
 use Rattle.mm_core.specs.Run.{number_of_main}
@@ -66,9 +67,12 @@ IsDefinedAt p n = (f : Function) → slice_get p.functions n ≡ Some f → IsTr
 
 -- each function that is called in a body is defined
 abbrev pub CalledAreDefined : Program → Type 0
-CalledAreDefined p = (f : Function) (b : Stmt) → Has p.functions f → f.body ≡ Some b → StmtCallsOnly (IsDefinedAt p) b
+CalledAreDefined p = (f : Function) (b : Stmt) → Has p.functions f → f.body ≡ Some b
+    → StmtCallsOnly (IsDefinedAt p) b
 
--- The program of a typed unit that defines `main` and all functions that are called is a whole program, without classes.
+-- The program of a typed unit that defines `main` and all functions that are called is a whole
+-- program, without classes.
 abbrev pub TypedUnitIsScalar : Type 0
-TypedUnitIsScalar = (u : UnitTree) (c : Checked) → DeclsInRange u.decls → UnitTypes u c → CalledAreDefined c.program
+TypedUnitIsScalar = (u : UnitTree) (c : Checked) → DeclsInRange u.decls → UnitTypes u c
+    → CalledAreDefined c.program
     → number_of_main c.program.functions < length c.program.functions → IsScalar c.program

@@ -16,7 +16,8 @@ use Rattle.mm_typing_valid.specs.Seen.{IsPlain, IsSeen}
 abbrev pub IsOf : Around → List ℕ → k.Expr → Ty → Type 0
 IsOf a known e t = (type_of a e ≡ t) × IsValid a known e
 
--- Its checked tree is valid and of its type. Where it is a variable, the number is that of a local of its type.
+-- Its checked tree is valid and of its type. Where it is a variable, the number is that of a local
+-- of its type.
 pub record IsSound (a : Around) (known : List ℕ) (v : Typed) : Type 0 where
   pub of : IsOf a known v.core v.ty
   pub plain : IsPlain v.ty
@@ -24,10 +25,12 @@ pub record IsSound (a : Around) (known : List ℕ) (v : Typed) : Type 0 where
 
 -- what is typed is valid, whatever reference variables were set
 abbrev pub TypedIsValid : Type 0
-TypedIsValid = (a : Around) (known : List ℕ) (env : Environment) → IsSeen a env → (e : t.Expr) (v : Typed) → IsInRange e
+TypedIsValid = (a : Around) (known : List ℕ) (env : Environment) → IsSeen a env
+    → (e : t.Expr) (v : Typed) → IsInRange e
     → Types env e v → IsSound a known v
 
 -- what is typed as a type is valid, and of this type
 abbrev pub TypedAsIsValid : Type 0
-TypedAsIsValid = (a : Around) (known : List ℕ) (env : Environment) → IsSeen a env → (to : Ty) (e : t.Expr) (c : k.Expr)
+TypedAsIsValid = (a : Around) (known : List ℕ) (env : Environment) → IsSeen a env
+    → (to : Ty) (e : t.Expr) (c : k.Expr)
     → IsInRange e → TypesAs env to e c → IsOf a known c to

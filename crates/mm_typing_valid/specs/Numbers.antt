@@ -1,5 +1,5 @@
 -- Trees whose numbers have 32 bits, as those that are read from tokens have. Own.
-use Rattle.std.specs.Prelude.{ℕ, ◌<◌, ◌^◌, List, [], ◌∷◌, Option, Some, None}
+use Rattle.std.specs.Prelude.{◌<◌, ◌^◌, List, [], ◌∷◌, Option, Some, None}
 use Rattle.mm_syntax.specs.Tree as t
 use Rattle.mm_syntax.specs.Tree.{Expr, number, boolean, this, name, scoped, cast, unary, step, binary, choose, assign, new, make, call, member, Exprs, no_exprs, expr_and}
 
@@ -53,7 +53,8 @@ abbrev mutual
   StmtInRange (t.if_else p e a b) = IsInRange e × StmtInRange a × StmtInRange b
   StmtInRange (t.while_do p e a) = IsInRange e × StmtInRange a
   StmtInRange (t.do_while p a e) = StmtInRange a × IsInRange e
-  StmtInRange (t.for_do p start c s a) = StartInRange start × MaybeInRange c × MaybeInRange s × StmtInRange a
+  StmtInRange (t.for_do p start c s a) = StartInRange start × MaybeInRange c × MaybeInRange s
+      × StmtInRange a
   StmtInRange (t.break p) = Unit {0}
   StmtInRange (t.continue p) = Unit {0}
   StmtInRange (t.return_nothing p) = Unit {0}

@@ -1,6 +1,6 @@
--- What stands around a body is what is seen in its text: the numbers in the environment are those of the locals and of the
--- functions. Own.
-use Rattle.std.specs.Prelude.{◌≡◌, ℕ, ◌<◌, ◌++◌, Bool, true, IsTrue, List, [], ◌∷◌, length, Option, Some, None, slice_get}
+-- What stands around a body is what is seen in its text: the numbers in the environment are those
+-- of the locals and of the functions. Own.
+use Rattle.std.specs.Prelude.{◌≡◌, ◌<◌, IsTrue, List, [], ◌∷◌, length, Some, None, slice_get}
 use Rattle.std.specs.List.{list_any}
 use Rattle.mm_classes.specs.declared.class.Ty.{Ty}
 use Rattle.mm_classes.specs.Lists.{Has}
@@ -21,9 +21,11 @@ ArePlain (t ∷ ts) = IsPlain t × ArePlain ts
 
 -- a variable is the local of its number, of an arithmetic type
 abbrev pub IsVarOf : Around → Var → Type 0
-IsVarOf a v = (v.local < length a.locals) × (type_at a.locals v.local ≡ v.ty) × IsTrue (is_arithmetic v.ty)
+IsVarOf a v = (v.local < length a.locals) × (type_at a.locals v.local ≡ v.ty)
+    × IsTrue (is_arithmetic v.ty)
 
--- a head is that of the function of its number, which may be called, and all of its types are plain
+-- a head is that of the function of its number, which may be called, and all of its types are
+-- plain
 pub record IsHeadOf (a : Around) (h : FnHead) : Type 0 where
   pub function : Function
   pub there : slice_get a.functions h.number ≡ Some function

@@ -20,20 +20,25 @@ IsValidAt a result in_loop s = (known : List ℕ) → IsValidStmt a result in_lo
 
 abbrev pub AreValidAt : Around → Ty → Bool → List k.Stmt → Type 0
 AreValidAt a result in_loop [] = Unit {0}
-AreValidAt a result in_loop (s ∷ ss) = IsValidAt a result in_loop s × AreValidAt a result in_loop ss
+AreValidAt a result in_loop (s ∷ ss) = IsValidAt a result in_loop s
+    × AreValidAt a result in_loop ss
 
 -- the one list begins with the other
 abbrev pub Begins : List Ty → List Ty → Type 0
 Begins ts us = (more : List Ty) × (ts ++ more ≡ us)
 
--- What a statement is typed as is valid in any function whose locals begin with those that were numbered so far.
+-- What a statement is typed as is valid in any function whose locals begin with those that were
+-- numbered so far.
 abbrev pub TypedStmtIsValid : Type 0
-TypedStmtIsValid = (a : Around) (env : Environment) → ((h : FnHead) → Has env.functions h → IsHeadOf a h)
+TypedStmtIsValid = (a : Around) (env : Environment) → ((h : FnHead) → Has env.functions h
+    → IsHeadOf a h)
     → (here : Here) (vs : List Var) (locals : List Ty) (s : t.Stmt) (v : Made (List k.Stmt))
-    → ((x : Var) → Has vs x → IsVarOf a x) → StmtInRange s → Begins v.locals a.locals → StmtTypes env here vs locals s v
+    → ((x : Var) → Has vs x → IsVarOf a x) → StmtInRange s → Begins v.locals a.locals
+    → StmtTypes env here vs locals s v
     → AreValidAt a here.result here.in_loop v.tree
 
 -- and the locals that were numbered before stay
 abbrev pub TypedStmtExtends : Type 0
-TypedStmtExtends = (env : Environment) (here : Here) (vs : List Var) (locals : List Ty) (s : t.Stmt) (v : Made (List k.Stmt))
+TypedStmtExtends = (env : Environment) (here : Here) (vs : List Var) (locals : List Ty) (s :
+    t.Stmt) (v : Made (List k.Stmt))
     → StmtTypes env here vs locals s v → Begins locals v.locals

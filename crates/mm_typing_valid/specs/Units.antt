@@ -7,4 +7,5 @@ use Rattle.mm_typing_valid.specs.Numbers.{DeclsInRange}
 
 -- the program of a typed unit is valid
 abbrev pub TypedUnitIsValid : Type 0
-TypedUnitIsValid = (u : UnitTree) (c : Checked) → DeclsInRange u.decls → UnitTypes u c → IsValidUnit c.program
+TypedUnitIsValid = (u : UnitTree) (c : Checked) → DeclsInRange u.decls → UnitTypes u c
+    → IsValidUnit c.program

@@ -11,7 +11,8 @@ pub fn expressions()
     ensures typed_as { TypedAsIsValid }
 {}
 
-/// What a typed statement becomes is valid in its function, and it numbers its variables behind those before it.
+/// What a typed statement becomes is valid in its function, and it numbers its variables behind
+/// those before it.
 pub fn statements()
     ensures valid { TypedStmtIsValid }
     ensures extends { TypedStmtExtends }
