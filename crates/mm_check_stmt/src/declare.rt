@@ -2,9 +2,10 @@
 
 ghost use Rattle.std.specs.Prelude.{◌≡◌, Ok, Err};
 ghost use Rattle.mm_classes.specs.declared.class.Ty.{Ty};
-ghost use Rattle.mm_core.specs.Tree as k;
 ghost use Rattle.mm_core.specs.View.{expr_view};
-ghost use Rattle.mm_checks.specs.Checks.{Gives, Fails};
+ghost use Rattle.mm_base.specs.declared.code.TheConstants.Code.{S12};
+ghost use Rattle.mm_syntax.specs.Forms.{mark_or};
+ghost use Rattle.mm_checks.specs.Checks.{Gives, at, demand};
 ghost use Rattle.mm_unit_typing.specs.Declarators as declarators;
 ghost use Rattle.mm_unit_typing.specs.Declarators.{scalar_of};
 ghost use Rattle.mm_unit_typing.specs.Made.{zero_of};
@@ -16,9 +17,10 @@ use mm_base::place::Place;
 use mm_base::text::Text;
 use mm_checks::{CheckEnd, need};
 use mm_classes::class::Ty;
-use mm_core::tree::{CoreExpr, CoreStmt};
+use mm_core::tree::CoreExpr;
+use mm_scopes::env::Env;
 use mm_syntax::expr::{TypeName, TypeNameKind};
-use mm_syntax::name::{DeclaratorMark, Indirection, Name};
+use mm_syntax::name::{DeclaratorMark, Name};
 use std::alloc::Global;
 
 // ---- types
@@ -55,15 +57,15 @@ pub fn check_type(alloc: Global, name: &TypeName) -> Result<Ty, CheckEnd>
 }
 
 /// Whether a type is `void`.
-pub fn is_void(ty: Ty) -> bool
-    ensures { result ≡ conversions.is_void ty }
+pub fn is_void(ty: &Ty) -> bool
+    ensures { result ≡ conversions.is_void ty.now }
 {
     matches!(ty, Ty::Void)
 }
 
 // Whether a variable or a parameter of this type holds a value.
-fn holds_value(mark: &Option<DeclaratorMark>, ty: Ty) -> bool
-    ensures { result ≡ declarators.holds_value mark.now ty }
+fn holds_value(mark: &Option<DeclaratorMark>, ty: &Ty) -> bool
+    ensures { result ≡ declarators.holds_value mark.now ty.now }
 {
     match mark {
         Some(_) => false,
@@ -71,7 +73,60 @@ fn holds_value(mark: &Option<DeclaratorMark>, ty: Ty) -> bool
     }
 }
 
+// ---- marks
+
+/// The place of a declarator's first token: the mark, or else what follows.
+pub fn first_place(mark: &Option<DeclaratorMark>, place: Place) -> Place
+    ensures { result ≡ mark_or mark.now place }
+{
+    match mark {
+        Some(mark) => mark.place,
+        None => place,
+    }
+}
+
+// Its text.
+fn first_text<'a>(mark: &Option<DeclaratorMark>, text: &'a str) -> &'a str
+    ensures { result.now ≡ declarators.text_or mark.now text.now }
+{
+    match mark {
+        Some(mark) => mark.kind.spelling(),
+        None => text,
+    }
+}
+
+/// What holds a value: a variable, or a parameter.
+pub fn need_value(
+    alloc: Global,
+    ty: &Ty,
+    mark: &Option<DeclaratorMark>,
+    place: Place,
+    text: &str,
+) -> Result<(), CheckEnd>
+    ensures { Gives (λ u. u) result (demand (declarators.holds_value mark.now ty.now) (at S12 (mark_or mark.now place) (declarators.text_or mark.now text.now))) }
+{
+    let place = first_place(mark, place);
+    let text = first_text(mark, text);
+    need(alloc, holds_value(mark, ty), Code::S12, place, text)
+}
+
 // ---- names
+
+/// A name that is new in its scope, of what holds a value.
+pub fn need_stand(
+    alloc: Global,
+    env: &Env,
+    outer: usize,
+    ty: &Ty,
+    mark: &Option<DeclaratorMark>,
+    name: &Name,
+) -> Result<(), CheckEnd>
+    ensures { Gives (λ u. u) result (judges.may_stand outer env.now.vars ty.now mark.now name.now) }
+{
+    let text = name.text.as_str();
+    need(alloc, env.is_new(outer, text), Code::S2, name.place, text)?;
+    need_value(alloc, ty, mark, name.place, text)
+}
 
 // Whether a name is not for programs.
 fn is_reserved(text: &str) -> bool
@@ -94,8 +149,9 @@ pub fn need_yours(alloc: Global, name: &Name) -> Result<(), CheckEnd>
 // ---- values
 
 /// Zero, or false.
-pub fn zero_value(ty: Ty) -> CoreExpr
-    ensures { expr_view result ≡ zero_of ty }
+#[tactic(auto, using(mm_core::proofs::Views::core_rules))]
+pub fn zero_value(ty: &Ty) -> CoreExpr
+    ensures { expr_view result ≡ zero_of ty.now }
 {
     match ty {
         Ty::Bool => CoreExpr::Bool(false),

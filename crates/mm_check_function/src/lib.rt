@@ -1,0 +1,4 @@
+//! Functions checked: heads, and bodies behind them.
+#![tactic(auto)]
+
+pub mod param;
