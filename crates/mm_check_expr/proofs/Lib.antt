@@ -1,0 +1,5 @@
+pub mod Choosing
+pub mod Ends
+pub mod Given
+pub mod Loops
+pub mod Sizes
