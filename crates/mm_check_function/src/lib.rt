@@ -1,4 +1,5 @@
 //! Functions checked: heads, and bodies behind them.
 #![tactic(auto)]
 
+pub mod known;
 pub mod param;

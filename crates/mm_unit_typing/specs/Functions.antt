@@ -97,12 +97,12 @@ abbrev pub known : List k.Function → List ℕ → List Ty → Option k.Functio
 known fs name params = slice_get fs (number_of fs name params)
 
 -- a declaration after another may not differ in the result, and only one defines the function
-abbrev pub agrees : Heading → Bool → Option k.Function → Bool
-agrees h defines None = true
-agrees h defines (Some f) = same_type f.result h.result && not (defines && f.defined)
+abbrev pub agrees : Ty → Bool → Option k.Function → Bool
+agrees result defines None = true
+agrees result defines (Some f) = same_type f.result result && not (defines && f.defined)
 
 abbrev pub may_declare : List k.Function → List ℕ → Heading → Bool → Bool
-may_declare fs name h defines = agrees h defines (known fs name h.params)
+may_declare fs name h defines = agrees h.result defines (known fs name h.params)
 
 abbrev pub core_param : Ty → CoreParam
 core_param t = record { ty = t; is_virtual = false }
