@@ -4,7 +4,7 @@ use Rattle.std.specs.Prelude.{◌&&◌, cond, find, nat_lt, slice_get, is_some, 
 use Rattle.std.specs.List.{position_or_len}
 use Rattle.std.specs.Str.{bytes_eq}
 use Rattle.std.proofs.lemmas.List.{drop_more, drop_all, length-append, length-map}
-use Rattle.std.proofs.lemmas.Option.{slice_get_within, slice_get_past, get_or_from_slice_get}
+use Rattle.std.proofs.lemmas.Option.{slice_get_within, slice_get_past, get_or_from_slice_get, slice_get-map, slice_get-get_or}
 use Rattle.mm_classes.specs.declared.class.Ty.{Ty}
 use Rattle.mm_core.specs.Heads.{same_types, types_of_params}
 use Rattle.mm_core.specs.declared.tree.CoreFn.{CoreFn}
@@ -91,3 +91,8 @@ pub body_set : (fs : List k.Function) (n : ℕ) (d : k.Function) (locals : List 
 body_set [] n d locals body low = absurd (omega arith)
 body_set (f ∷ fs) zero d locals body low = refl
 body_set (f ∷ fs) (suc n) d locals body low = ap (λ gs. f ∷ gs) (body_set fs n d locals body (omega arith))
+
+-- ---- the function at its place
+
+pub known_at : (gs : List CoreFn) (name : List ℕ) (params : List Ty) (n : ℕ) (f : CoreFn) → n ≡ number_of (functions_view gs) name params → n < length gs → f ≡ get_or gs n f → known (functions_view gs) name params ≡ Some (function_view f)
+known_at gs name params n f is low e = ap (slice_get (functions_view gs)) (sym is) ∙ (slice_get-map function_view gs n ∙ ap (option_map function_view) (slice_get-get_or gs n f low ∙ ap (λ g. Some g) (sym e)))

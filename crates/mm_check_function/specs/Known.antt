@@ -8,7 +8,9 @@ use Rattle.mm_core.specs.View.{function_view}
 use Rattle.mm_scopes.specs.declared.head.FnHead.{FnHead}
 use Rattle.mm_scopes.specs.Environment.{Environment}
 use Rattle.mm_scopes.specs.Names.{named}
-use Rattle.mm_unit_typing.specs.Functions.{heads_from}
+use Rattle.mm_unit_typing.specs.Scopes.{inside}
+use Rattle.mm_unit_typing.specs.Functions.{Heading, heading, heads_from, seen}
+use Rattle.mm_check_function.specs.declared.head.Signature.{Signature}
 
 -- functions in memory as plain trees
 abbrev pub functions_view : List CoreFn → List k.Function
@@ -27,3 +29,11 @@ found_in hs name params = option_map number_in (find (has_params params) (named 
 -- the environment sees these functions
 abbrev pub Sees : Environment → List CoreFn → Type 0
 Sees env fs = env.functions ≡ heads_from 0 (functions_view fs)
+
+-- the environment has these functions, its variables, and no classes
+abbrev pub Stands : Environment → List CoreFn → Type 0
+Stands env fs = env ≡ inside (seen (functions_view fs)) env.vars
+
+-- what a head says, in memory
+abbrev pub heading_view : Signature → Heading
+heading_view s = heading s.result s.params

@@ -36,7 +36,7 @@ fn code(ty: &Ty) -> u64
     }
 }
 
-fn is_same(a: &Ty, b: &Ty) -> bool
+pub(crate) fn is_same(a: &Ty, b: &Ty) -> bool
     ensures { result ≡ same_type a.now b.now }
 {
     code(a) == code(b)

@@ -110,6 +110,26 @@ pub fn need_value(
     need(alloc, holds_value(mark, ty), Code::S12, place, text)
 }
 
+// Whether no mark stands.
+fn is_unmarked(mark: &Option<DeclaratorMark>) -> bool
+    ensures { result ≡ declarators.is_unmarked mark.now }
+{
+    mark.is_none()
+}
+
+/// What a function gives has no mark.
+pub fn need_unmarked(
+    alloc: Global,
+    mark: &Option<DeclaratorMark>,
+    name: &Name,
+) -> Result<(), CheckEnd>
+    ensures { Gives (λ u. u) result (demand (declarators.is_unmarked mark.now) (declarators.wrong_kind mark.now name.now)) }
+{
+    let place = first_place(mark, name.place);
+    let text = first_text(mark, name.text.as_str());
+    need(alloc, is_unmarked(mark), Code::S12, place, text)
+}
+
 // ---- names
 
 /// A name that is new in its scope, of what holds a value.
