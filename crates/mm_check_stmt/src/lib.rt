@@ -1,0 +1,7 @@
+//! Statements checked: each is typed, or has its first fault.
+#![tactic(auto)]
+
+pub mod declare;
+pub mod parts;
+pub mod stmt;
+pub mod variables;
