@@ -1,6 +1,0 @@
-//! Functions checked: heads, and bodies behind them.
-#![tactic(auto)]
-
-pub mod head;
-pub mod known;
-pub mod param;
