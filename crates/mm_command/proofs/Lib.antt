@@ -1,0 +1,3 @@
+pub mod Bounds
+pub mod Telling
+pub mod Laws
