@@ -1,0 +1,4 @@
+pub mod Bases
+pub mod Orders
+pub mod Functions
+pub mod Choosing

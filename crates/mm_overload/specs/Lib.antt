@@ -1,0 +1,3 @@
+pub mod Rank
+pub mod Better
+pub mod Choice

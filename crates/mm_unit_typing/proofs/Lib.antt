@@ -1,0 +1,3 @@
+pub mod Statements
+pub mod Units
+pub mod Verdict

@@ -1,0 +1,94 @@
+-- The check of a statement gives what the relations say: one line a statement.
+use Rattle.std.proofs.Common.{◌≡◌, ℕ, List, [], ◌∷◌, ◌++◌, length, refl, inl, inr}
+use Rattle.std.specs.Prelude.{Option, Some, None, Ok}
+use Rattle.mm_base.specs.declared.place.Place.{Place}
+use Rattle.mm_classes.specs.declared.class.Ty.{Ty}
+use Rattle.mm_classes.specs.declared.class.Ty.TheVariants as ty
+use Rattle.mm_core.specs.Tree as k
+use Rattle.mm_syntax.specs.declared.name.Name.{Name}
+use Rattle.mm_syntax.specs.declared.name.DeclaratorMark.{DeclaratorMark}
+use Rattle.mm_syntax.specs.declared.expr.TypeName.{TypeName}
+use Rattle.mm_syntax.specs.Tree.{Expr, Declarator, Variables, Initializer, no_initial, initial, arguments, Start, no_start, start_expr, start_variables, Stmt, block, empty, run, declare, if_then, if_else, while_do, do_while, for_do, break, continue, return_nothing, return, Stmts, no_stmts, stmt_and}
+use Rattle.mm_checks.specs.Checks.{Fault, Checked, ◌>>=◌, Then}
+use Rattle.mm_checks.specs.Reads.{Reads}
+use Rattle.mm_checks.proofs.Combinators.{part, met, gives, fails, as_said}
+use Rattle.mm_scopes.specs.declared.head.Var.{Var}
+use Rattle.mm_scopes.specs.Environment.{Environment}
+use Rattle.mm_typing.proofs.Operators.{becomes}
+use Rattle.mm_typing.proofs.Reading.{reads, as_reads}
+use Rattle.mm_unit_typing.specs.declared.here.Here.{Here}
+use Rattle.mm_unit_typing.specs.Declarators.{scalar_of, unbuilt, Names, NamesNone}
+use Rattle.mm_unit_typing.specs.Scopes.{inside, within, turn_within, variable, behind, behind_start}
+use Rattle.mm_unit_typing.specs.Made.{Made}
+use Rattle.mm_unit_typing.specs.Statements.{MayStand, MayNotStand, IsYours, IsNotYours, Begins, BeginsNot, AllBegin, SomeBeginsNot, VariablesType, VariablesFault, StartTypes, StartFaults, TestTypes, TestFaults, StepTypes, StepFaults, LoopTypes, LoopFaults, StmtTypes, StmtsType, StmtFaults, StmtsFault}
+use Rattle.mm_unit_typing.specs.Judge.{built, judge_type, may_stand, is_yours, judge_begin, judge_begins, judge_variables, judge_start, judge_test, judge_step, judge_loop, judge_stmt, judge_stmts}
+
+-- ---- types and names
+
+built_reads : (p : Place) (o : Option Ty) → Reads (built p o) (λ t. o ≡ Some t) (λ f. (o ≡ None) × (unbuilt p ≡ f))
+built_reads p None = as_said (fails (unbuilt p)) (λ v t. absurd t) (λ v t. cc t) (λ f e. (refl, e)) (λ f e. e.1)
+built_reads p (Some t) = as_said (gives t) (λ v e. rw e refl) (λ v e. cc e) (λ f e. absurd e) (λ f e. cc (e.0))
+
+pub type_reads : (x : TypeName) → Reads (judge_type x) (Names x) (NamesNone x)
+type_reads x = built_reads x.place (scalar_of x.kind)
+
+pub stands : (outer : ℕ) (vs : List Var) (t : Ty) (mark : Option DeclaratorMark) (name : Name) → Reads (may_stand outer vs t mark name) (MayStand outer vs t mark name) (MayNotStand outer vs t mark name)
+stands outer vs t mark name = part (met _ _) λ u. met _ _
+
+pub yours : (name : Name) → Reads (is_yours name) (IsYours name) (IsNotYours name)
+yours name = met _ _
+
+module _ {A B : Type 0} where
+  -- a last part, from which a value is made
+  pub last : {r : Checked A} {T : A → Type 0} {F : Fault → Type 0} → Reads r T F → (make : A → B) → Reads (r >>= λ x. Ok (make x)) (Then T (λ x v. make x ≡ v)) F
+  last h make = as_said (part h (λ x. gives (make x))) (λ v t. t) (λ v t. t) (λ f t. elim t [ inl g ↦ g | inr t ↦ absurd t.2 ]) (λ f g. inl g)
+
+module _ (env : Environment) where
+  begins : (here : Here) (t : Ty) (vs : List Var) (n : ℕ) (mark : Option DeclaratorMark) (name : Name) (x : Initializer) → Reads (judge_begin env here t vs n mark name x) (Begins env here t vs n mark name x) (BeginsNot env here t vs mark name x)
+  begins here t vs n mark name no_initial = part (stands here.outer vs t mark name) λ u. last (yours name) _
+  begins here t vs n mark name (initial e) = part (reads (inside env vs) e) λ x. part (stands here.outer vs t mark name) λ u. part (becomes t e x) λ c. last (yours name) _
+  begins here t vs n mark name (arguments es) = fails _
+
+  all_begin : (here : Here) (t : Ty) (vs : List Var) (locals : List Ty) (xs : List Declarator) → Reads (judge_begins env here t vs locals xs) (AllBegin env here t vs locals xs) (SomeBeginsNot env here t vs locals xs)
+  all_begin here t vs locals [] = gives _
+  all_begin here t vs locals (x ∷ xs) = part (begins here t vs (length locals) x.mark x.name x.initializer) λ s. last (all_begin here t (vs ++ variable x.name.text t (length locals) ∷ []) (locals ++ t ∷ []) xs) _
+
+  variables : (here : Here) (vs : List Var) (locals : List Ty) (x : Variables) → Reads (judge_variables env here vs locals x) (VariablesType env here vs locals x) (VariablesFault env here vs locals x)
+  variables here vs locals x = part (type_reads x.type_name) λ t. all_begin here t vs locals x.names
+
+  start : (here : Here) (vs : List Var) (locals : List Ty) (x : Start) → Reads (judge_start env here vs locals x) (StartTypes env here vs locals x) (StartFaults env here vs locals x)
+  start here vs locals no_start = gives _
+  start here vs locals (start_expr e) = last (reads (inside env vs) e) _
+  start here vs locals (start_variables x) = variables here vs locals x
+
+  test : (vs : List Var) (x : Option Expr) → Reads (judge_test env vs x) (TestTypes env vs x) (TestFaults env vs x)
+  test vs None = gives _
+  test vs (Some e) = as_reads (inside env vs) ty.Bool e
+
+  step : (vs : List Var) (x : Option Expr) → Reads (judge_step env vs x) (StepTypes env vs x) (StepFaults env vs x)
+  step vs None = gives _
+  step vs (Some e) = last (reads (inside env vs) e) _
+
+  loop : (vs : List Var) (c s : Option Expr) (body : Checked (Made (List k.Stmt))) (T : Made (List k.Stmt) → Type 0) (F : Fault → Type 0) → Reads body T F
+      → Reads (judge_loop env vs c s body) (LoopTypes env vs c s T) (LoopFaults env vs c s F)
+  loop vs c s body T F h = part (test vs c) λ t. part (step vs s) λ u. last h _
+
+  mutual
+    pub stmt_reads : (here : Here) (vs : List Var) (locals : List Ty) (s : Stmt) → Reads (judge_stmt env here vs locals s) (StmtTypes env here vs locals s) (StmtFaults env here vs locals s)
+    stmt_reads here vs locals (block p ss) = stmts_read (within here vs) vs locals ss
+    stmt_reads here vs locals (empty p) = gives _
+    stmt_reads here vs locals (run p e) = last (reads (inside env vs) e) _
+    stmt_reads here vs locals (declare p x) = variables here vs locals x
+    stmt_reads here vs locals (if_then p e a) = part (as_reads (inside env vs) ty.Bool e) λ c. last (stmt_reads (within here vs) vs locals a) _
+    stmt_reads here vs locals (if_else p e a b) = part (as_reads (inside env vs) ty.Bool e) λ c. part (stmt_reads (within here vs) vs locals a) λ x. last (stmt_reads (within here vs) vs x.locals b) _
+    stmt_reads here vs locals (while_do p e a) = part (as_reads (inside env vs) ty.Bool e) λ c. last (stmt_reads (turn_within here vs) vs locals a) _
+    stmt_reads here vs locals (do_while p a e) = part (stmt_reads (turn_within here vs) vs locals a) λ x. last (as_reads (inside env vs) ty.Bool e) _
+    stmt_reads here vs locals (for_do p first c s a) = part (start (within here vs) vs locals first) λ f. last (loop (behind_start vs locals first) c s _ _ _ (stmt_reads (turn_within here (behind_start vs locals first)) (behind_start vs locals first) f.locals a)) _
+    stmt_reads here vs locals (break p) = last (met _ _) _
+    stmt_reads here vs locals (continue p) = last (met _ _) _
+    stmt_reads here vs locals (return_nothing p) = last (met _ _) _
+    stmt_reads here vs locals (return p e) = part (reads (inside env vs) e) λ x. part (met _ _) λ u. last (becomes here.result e x) _
+
+    pub stmts_read : (here : Here) (vs : List Var) (locals : List Ty) (ss : Stmts) → Reads (judge_stmts env here vs locals ss) (StmtsType env here vs locals ss) (StmtsFault env here vs locals ss)
+    stmts_read here vs locals no_stmts = gives _
+    stmts_read here vs locals (stmt_and s ss) = part (stmt_reads here vs locals s) λ x. last (stmts_read here (behind vs locals s) x.locals ss) _

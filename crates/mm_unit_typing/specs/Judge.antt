@@ -1,0 +1,146 @@
+-- The check of a statement as a function: its parts in order, then the statement itself. It says the same as the
+-- relations of `Statements`, and serves the code. Own.
+use Rattle.std.specs.Prelude.{ℕ, true, not, List, [], ◌∷◌, ◌++◌, length, codes, Option, Some, None, Ok, Err}
+use Rattle.mm_base.specs.declared.place.Place.{Place}
+use Rattle.mm_base.specs.declared.code.TheConstants.Code.{S13, S14}
+use Rattle.mm_classes.specs.declared.class.Ty.{Ty}
+use Rattle.mm_classes.specs.declared.class.Ty.TheVariants as ty
+use Rattle.mm_core.specs.Tree as k
+use Rattle.mm_core.specs.View.{stmts_of}
+use Rattle.mm_syntax.specs.declared.name.Name.{Name}
+use Rattle.mm_syntax.specs.declared.name.DeclaratorMark.{DeclaratorMark}
+use Rattle.mm_syntax.specs.declared.expr.TypeName.{TypeName}
+use Rattle.mm_syntax.specs.Forms.{mark_or}
+use Rattle.mm_syntax.specs.Tree.{Expr, Declarator, Variables, Initializer, no_initial, initial, arguments, Start, no_start, start_expr, start_variables, Stmt, block, empty, run, declare, if_then, if_else, while_do, do_while, for_do, break, continue, return_nothing, return, Stmts, no_stmts, stmt_and}
+use Rattle.mm_checks.specs.Checks.{Checked, ◌>>=◌, at, demand}
+use Rattle.mm_scopes.specs.declared.head.Var.{Var}
+use Rattle.mm_scopes.specs.Environment.{Environment}
+use Rattle.mm_typing.specs.Conversions.{is_void, as_type}
+use Rattle.mm_typing.specs.Judge.{judge, judge_as}
+use Rattle.mm_unit_typing.specs.declared.here.Here.{Here}
+use Rattle.mm_unit_typing.specs.Declarators.{scalar_of, holds_value, is_reserved, wrong_kind, declared_twice, is_not_yours, unbuilt}
+use Rattle.mm_unit_typing.specs.Scopes.{inside, is_new, within, turn_within, variable, behind, behind_start}
+use Rattle.mm_unit_typing.specs.Made.{Made, made, zero_of, block_of, nodes_of}
+
+abbrev pub built : Place → Option Ty → Checked Ty
+built p None = Err (unbuilt p)
+built p (Some t) = Ok t
+
+abbrev pub judge_type : TypeName → Checked Ty
+judge_type x = built x.place (scalar_of x.kind)
+
+abbrev pub may_stand : ℕ → List Var → Ty → Option DeclaratorMark → Name → Checked (Unit {0})
+may_stand outer vs t mark name = do
+  u ← demand (is_new outer vs name.text) (declared_twice name)
+  demand (holds_value mark t) (wrong_kind mark name)
+
+abbrev pub is_yours : Name → Checked (Unit {0})
+is_yours name = demand (not (is_reserved name.text)) (is_not_yours name)
+
+module _ (env : Environment) where
+  abbrev pub judge_begin : Here → Ty → List Var → ℕ → Option DeclaratorMark → Name → Initializer → Checked k.Stmt
+  judge_begin here t vs n mark name no_initial = do
+    u ← may_stand here.outer vs t mark name
+    w ← is_yours name
+    Ok (k.run (k.set_local n (zero_of t)))
+  judge_begin here t vs n mark name (initial e) = do
+    x ← judge (inside env vs) e
+    u ← may_stand here.outer vs t mark name
+    c ← as_type t e x
+    w ← is_yours name
+    Ok (k.run (k.set_local n c))
+  judge_begin here t vs n mark name (arguments es) = Err (unbuilt (mark_or mark name.place))
+
+  abbrev pub judge_begins : Here → Ty → List Var → List Ty → List Declarator → Checked (Made (List k.Stmt))
+  judge_begins here t vs locals [] = Ok (made [] locals)
+  judge_begins here t vs locals (x ∷ xs) = do
+    s ← judge_begin here t vs (length locals) x.mark x.name x.initializer
+    rest ← judge_begins here t (vs ++ variable x.name.text t (length locals) ∷ []) (locals ++ t ∷ []) xs
+    Ok (made (s ∷ rest.tree) rest.locals)
+
+  abbrev pub judge_variables : Here → List Var → List Ty → Variables → Checked (Made (List k.Stmt))
+  judge_variables here vs locals x = do
+    t ← judge_type x.type_name
+    judge_begins here t vs locals x.names
+
+  abbrev pub judge_start : Here → List Var → List Ty → Start → Checked (Made (List k.Stmt))
+  judge_start here vs locals no_start = Ok (made (block_of [] ∷ []) locals)
+  judge_start here vs locals (start_expr e) = do
+    x ← judge (inside env vs) e
+    Ok (made (k.run x.core ∷ []) locals)
+  judge_start here vs locals (start_variables x) = judge_variables here vs locals x
+
+  abbrev pub judge_test : List Var → Option Expr → Checked k.Expr
+  judge_test vs None = Ok (k.bool true)
+  judge_test vs (Some e) = judge_as (inside env vs) ty.Bool e
+
+  abbrev pub judge_step : List Var → Option Expr → Checked k.Stmt
+  judge_step vs None = Ok (block_of [])
+  judge_step vs (Some e) = do
+    x ← judge (inside env vs) e
+    Ok (k.run x.core)
+
+  abbrev pub judge_loop : List Var → Option Expr → Option Expr → Checked (Made (List k.Stmt)) → Checked (Made k.Stmt)
+  judge_loop vs c s body = do
+    test ← judge_test vs c
+    step ← judge_step vs s
+    x ← body
+    Ok (made (k.for_do test step (stmts_of x.tree)) x.locals)
+
+  abbrev pub judge_jump : Here → Place → List ℕ → Checked (Unit {0})
+  judge_jump here p word = demand here.in_loop (at S13 p word)
+
+  abbrev pub judge_return : Here → List Var → List Ty → Place → Expr → Checked (Made (List k.Stmt))
+  judge_return here vs locals p e = do
+    x ← judge (inside env vs) e
+    u ← demand (not (is_void here.result)) (at S14 p (codes "return"))
+    c ← as_type here.result e x
+    Ok (made (k.return c ∷ []) locals)
+
+  abbrev mutual
+    pub judge_stmt : Here → List Var → List Ty → Stmt → Checked (Made (List k.Stmt))
+    judge_stmt here vs locals (block p ss) = judge_stmts (within here vs) vs locals ss
+    judge_stmt here vs locals (empty p) = Ok (made [] locals)
+    judge_stmt here vs locals (run p e) = do
+      x ← judge (inside env vs) e
+      Ok (made (k.run x.core ∷ []) locals)
+    judge_stmt here vs locals (declare p x) = judge_variables here vs locals x
+    judge_stmt here vs locals (if_then p e a) = do
+      c ← judge_as (inside env vs) ty.Bool e
+      x ← judge_stmt (within here vs) vs locals a
+      Ok (made (k.if_else c (stmts_of x.tree) k.no_stmts ∷ []) x.locals)
+    judge_stmt here vs locals (if_else p e a b) = do
+      c ← judge_as (inside env vs) ty.Bool e
+      x ← judge_stmt (within here vs) vs locals a
+      y ← judge_stmt (within here vs) vs x.locals b
+      Ok (made (k.if_else c (stmts_of x.tree) (stmts_of y.tree) ∷ []) y.locals)
+    judge_stmt here vs locals (while_do p e a) = do
+      c ← judge_as (inside env vs) ty.Bool e
+      x ← judge_stmt (turn_within here vs) vs locals a
+      Ok (made (k.while_do c (stmts_of x.tree) ∷ []) x.locals)
+    judge_stmt here vs locals (do_while p a e) = do
+      x ← judge_stmt (turn_within here vs) vs locals a
+      c ← judge_as (inside env vs) ty.Bool e
+      Ok (made (k.do_while (stmts_of x.tree) c ∷ []) x.locals)
+    judge_stmt here vs locals (for_do p start c s a) = do
+      first ← judge_start (within here vs) vs locals start
+      loop ← judge_loop (behind_start vs locals start) c s
+          (judge_stmt (turn_within here (behind_start vs locals start)) (behind_start vs locals start) first.locals a)
+      Ok (made (first.tree ++ loop.tree ∷ []) loop.locals)
+    judge_stmt here vs locals (break p) = do
+      u ← judge_jump here p (codes "break")
+      Ok (made (k.break ∷ []) locals)
+    judge_stmt here vs locals (continue p) = do
+      u ← judge_jump here p (codes "continue")
+      Ok (made (k.continue ∷ []) locals)
+    judge_stmt here vs locals (return_nothing p) = do
+      u ← demand (is_void here.result) (at S14 p (codes "return"))
+      Ok (made (k.return_nothing ∷ []) locals)
+    judge_stmt here vs locals (return p e) = judge_return here vs locals p e
+
+    pub judge_stmts : Here → List Var → List Ty → Stmts → Checked (Made (List k.Stmt))
+    judge_stmts here vs locals no_stmts = Ok (made [] locals)
+    judge_stmts here vs locals (stmt_and s ss) = do
+      x ← judge_stmt here vs locals s
+      rest ← judge_stmts here (behind vs locals s) x.locals ss
+      Ok (made (nodes_of s x.tree ++ rest.tree) rest.locals)

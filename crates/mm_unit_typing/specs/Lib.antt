@@ -1,0 +1,9 @@
+pub mod Declarators
+pub mod Scopes
+pub mod Made
+pub mod Statements
+pub mod Functions
+pub mod Units
+pub mod Laws
+pub mod Judge
+pub mod JudgeUnit
