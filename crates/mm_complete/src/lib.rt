@@ -1,0 +1,5 @@
+//! Whether a program defines what it calls, and `int main()`.
+#![tactic(auto)]
+
+pub mod callees;
+pub mod lack;
