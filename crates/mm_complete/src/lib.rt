@@ -3,3 +3,4 @@
 
 pub mod callees;
 pub mod lack;
+pub mod law;
