@@ -1,0 +1,10 @@
+pub mod Conversions
+pub mod Calls
+pub mod Expressions
+pub mod Locals
+pub mod Statements
+pub mod Variables
+pub mod Heads
+pub mod Functions
+pub mod Units
+pub mod Called

@@ -1,0 +1,6 @@
+pub mod Numbers
+pub mod Seen
+pub mod Expressions
+pub mod Statements
+pub mod Units
+pub mod Called

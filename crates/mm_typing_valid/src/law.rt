@@ -1,0 +1,32 @@
+//! What holds of the checked trees of all that is typed.
+
+ghost use Rattle.mm_typing_valid.specs.Expressions.{TypedIsValid, TypedAsIsValid};
+ghost use Rattle.mm_typing_valid.specs.Called.{TypedUnitIsScalar};
+ghost use Rattle.mm_typing_valid.specs.Units.{TypedUnitIsValid};
+ghost use Rattle.mm_typing_valid.specs.Statements.{TypedStmtIsValid, TypedStmtExtends};
+
+/// The checked tree of a typed expression is valid, and of its type.
+pub fn expressions()
+    ensures typed { TypedIsValid }
+    ensures typed_as { TypedAsIsValid }
+{
+}
+
+/// What a typed statement becomes is valid in its function, and it numbers its variables behind those before it.
+pub fn statements()
+    ensures valid { TypedStmtIsValid }
+    ensures extends { TypedStmtExtends }
+{
+}
+
+/// The program of a typed unit is valid.
+pub fn units()
+    ensures { TypedUnitIsValid }
+{
+}
+
+/// A typed unit that defines `main` and all functions that are called is a whole program.
+pub fn programs()
+    ensures { TypedUnitIsScalar }
+{
+}

@@ -1,0 +1,4 @@
+//! What is typed is valid.
+#![tactic(auto)]
+
+pub mod law;
