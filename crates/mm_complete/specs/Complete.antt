@@ -5,10 +5,9 @@ use Rattle.mm_classes.specs.declared.class.Ty.{Ty}
 use Rattle.mm_classes.specs.declared.class.Ty.TheVariants as ty
 use Rattle.mm_classes.specs.Classes.{Class, name_of}
 use Rattle.mm_classes.specs.Lists.{has}
-use Rattle.mm_core.specs.Tree.{Function, Program}
+use Rattle.mm_core.specs.Tree.{Function}
 use Rattle.mm_core.specs.Heads.{is_open, types_of_params}
 use Rattle.mm_core.specs.Run.{number_of_main}
-use Rattle.mm_core.specs.ValidProgram.{IsValidUnit, IsMerged}
 use Rattle.mm_complete.specs.declared.lack.Lack.{Lack}
 use Rattle.mm_complete.specs.Callees.{called_by}
 
@@ -64,9 +63,3 @@ lack_of f = record { place = f.place; signature = signature [] f }
 abbrev pub lack_in : Option Function → Option Lack
 lack_in None = None
 lack_in (Some f) = Some (lack_of f)
-
--- ---- the law
-
--- the program of a valid unit without classes that lacks nothing is a merged program
-abbrev pub CompleteIsMerged : Type 0
-CompleteIsMerged = (p : Program) → p.classes ≡ [] → IsValidUnit p → IsComplete p.functions → IsMerged p

@@ -2,5 +2,5 @@
 #![tactic(auto)]
 
 pub mod callees;
+pub mod entry;
 pub mod lack;
-pub mod law;

@@ -1,0 +1,51 @@
+// `link`: from a unit to its C text.
+
+ghost use Rattle.std.specs.Prelude.{IfOk, [], map};
+ghost use Rattle.mm_base.specs.Outside.{SourceSeen};
+ghost use Rattle.mm_token.specs.Causes.{AreKept};
+ghost use Rattle.mm_core.specs.View.{program_view};
+ghost use Rattle.mm_simulate.specs.Simulates.{IsScalar, IsShallow};
+ghost use Rattle.mm_lower.specs.Written.{FewTemporaries};
+ghost use Rattle.mm_command.specs.declared.words.Command.TheVariants.{Link};
+ghost use Rattle.mm_command.specs.Outside.{Change};
+ghost use Rattle.mm_command.specs.Due.{Translated};
+ghost use Rattle.mm_command.specs.Writing.{IsOutcome};
+ghost use Rattle.mm_top.specs.Steps.{ComesTo};
+
+use crate::outcome::refused;
+use mm_base::code::NoMemory;
+use mm_base::outside::Files;
+use mm_c_print::print;
+use mm_command::writing::Outcome;
+use mm_core::tree::CoreFn;
+use mm_lower::program::lower_program;
+use mm_verdict::unit::sound_unit;
+use std::alloc::Global;
+
+// The C text of a program without classes.
+fn translated(alloc: Global, functions: &[CoreFn]) -> Result<Outcome, NoMemory>
+    requires scalar { IsScalar (program_view [] functions.now) }
+    requires shallow { IsShallow (program_view [] functions.now) }
+    requires few { FewTemporaries (program_view [] functions.now) }
+    ensures { IfOk result (λ x. IsOutcome (Translated (program_view [] functions.now)) x) }
+{
+    let program = lower_program(alloc, functions)?;
+    let text = print(alloc, &program)?;
+    Ok(Outcome {
+        status: 0,
+        text,
+        message: Vec::new(alloc),
+    })
+}
+
+/// The C text of a unit, or why there is none.
+pub fn link<F: Files>(alloc: Global, name: &str, files: &mut F) -> Result<Outcome, NoMemory>
+    ensures content { IfOk result (λ x. (input : Change SourceSeen) → ComesTo (Some (Link name.now))
+        (record { old = F.seen files.old; new = F.seen files.new }) input x) }
+    ensures files { AreKept (F.seen files.old) (F.seen files.new) }
+{
+    match sound_unit(alloc, name, files) {
+        Ok(functions) => translated(alloc, functions.as_slice()),
+        Err(reason) => refused(alloc, &reason),
+    }
+}
