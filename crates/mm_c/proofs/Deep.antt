@@ -24,7 +24,7 @@ use Rattle.mm_c.specs.WellFormed.{is_inline}
 use Rattle.mm_c.specs.CMeaning.{Stop, Trapped, Spent, Stuck, State, Names, Store, From, or_stuck, Around, value_in, target_in, at_index, long_of, index_of, as_index, reads, set_name, zero_all, outside, stored, store_at, values_of, atoms_in, Flow, Next, Broke, Continued, Returned, unless_left, next_turn, if_zero, turns, called, call_of, gives, right_of, flow_of, flow_in, flows_of, returned_as, left_by, end_of, body_of, enter, given, with_kinds, no_names, no_kinds, answered, ask, trap, allocate, ints_in, Given, asks, traps, allocates, given_call, Callee, prelude, defined, callee_of, Steps, plain_callee, plain_calls, any_callee, all_calls, around_of, around_all, steps_of, now}
 
 module _ (S A : Type 0) where
-  same_or_stuck : {c : ℕ} (o : Option A) → Same {S = S} c (or_stuck o) (or_stuck o)
+  pub same_or_stuck : {c : ℕ} (o : Option A) → Same {S = S} c (or_stuck o) (or_stuck o)
   same_or_stuck None = same_stop Stuck
   same_or_stuck (Some a) = same_pure a
 
@@ -153,7 +153,7 @@ same_returned None (Some v) = same_stop Stuck
 same_returned (Some r) None = same_stop Stuck
 same_returned (Some r) (Some v) = same_pure _
 
-same_left : {c : ℕ} (r : Option CKind) (flow : Flow) → Same c (left_by r flow) (left_by r flow)
+pub same_left : {c : ℕ} (r : Option CKind) (flow : Flow) → Same c (left_by r flow) (left_by r flow)
 same_left r Next = same_returned r None
 same_left r Broke = same_stop Stuck
 same_left r Continued = same_stop Stuck
@@ -188,7 +188,7 @@ same_allocate : {c : ℕ} (vs : List CValue) → Same c (allocate vs) (allocate 
 same_allocate (Unsigned (suc n) ∷ []) = record { by = λ s k le. (refl, omega arith) }
 same_allocate _ = same_stop Stuck
 
-same_ask : {c : ℕ} (g : Given) (vs : List CValue) → Same c (given_call g vs) (given_call g vs)
+pub same_ask : {c : ℕ} (g : Given) (vs : List CValue) → Same c (given_call g vs) (given_call g vs)
 same_ask (asks b) vs = go (ints_in vs)
   where
     go : {c : ℕ} (o : Option (List ℤ)) → Same c (ask b o) (ask b o)

@@ -3,3 +3,4 @@ pub mod Entries
 pub mod Scopes
 pub mod Keeps
 pub mod Locals
+pub mod Places

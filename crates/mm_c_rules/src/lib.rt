@@ -1,4 +1,4 @@
-//! Whether a C program keeps the rules beside its grammar. Nothing is allocated.
+//! Whether a C program keeps the rules beside its grammar, and what breaks them first. Nothing is allocated.
 #![tactic(auto, using(crate::proofs::Rules::rule_rules))]
 
 pub mod entry;
@@ -11,4 +11,4 @@ mod program;
 mod right;
 mod statements;
 
-pub use program::well_formed;
+pub use program::{defines_main, first_break, well_formed};

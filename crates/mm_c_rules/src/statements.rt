@@ -1,10 +1,10 @@
 // Statements, and what stands inside them.
 
-ghost use Rattle.std.specs.Prelude.{◌≡◌};
+ghost use Rattle.std.specs.Prelude.{◌≡◌, ◌∷◌, [], not};
 ghost use Rattle.mm_c.specs.View.{stmt_view, block_view, code_view};
 ghost use Rattle.mm_c.specs.WellFormed.{kind_in, assign_fits, is_tag, stored_fits, returned_fits, stmt_breaks, block_breaks, code_breaks};
 ghost use Rattle.mm_c_rules.specs.Scopes.{scope_view, here_view};
-ghost use Rattle.mm_c_rules.specs.Keeps.{keeps};
+ghost use Rattle.mm_c_rules.specs.Keeps.{keeps, left_of};
 
 use crate::here::{Here, Scope, kind_in};
 use crate::names::result_number;
@@ -54,54 +54,74 @@ fn returned_fits(here: &Here<'_>, atom: &CAtom) -> bool
     }
 }
 
-/// Whether a statement and those inside it keep the rules.
+/// Counts one that keeps its rule off what is left.
+pub fn counted(keeps_it: bool, left: &mut usize) -> bool
+    ensures keeps { result ≡ keeps (not keeps_it ∷ []) }
+    ensures left { left.new ≡ left_of left.old (not keeps_it ∷ []) }
+{
+    if keeps_it {
+        *left = left.saturating_sub(1);
+    }
+    keeps_it
+}
+
+/// Whether a statement and those inside it keep the rules. One is taken off `left` for each that
+/// stands before the first that doesn't.
 #[cycle(stmt_keeps)]
-pub fn stmt_keeps(stmt: &CStmt, here: &Here<'_>) -> bool
-    ensures { result ≡ keeps (stmt_breaks (here_view here.now) (stmt_view stmt.now)) }
+pub fn stmt_keeps(stmt: &CStmt, here: &Here<'_>, left: &mut usize) -> bool
+    ensures keeps { result ≡ keeps (stmt_breaks (here_view here.now) (stmt_view stmt.now)) }
+    ensures left { left.new ≡ left_of left.old (stmt_breaks (here_view here.now) (stmt_view stmt.now)) }
 {
     match stmt {
-        CStmt::Assign(name, right) => assign_fits(here, name, right),
+        CStmt::Assign(name, right) => counted(assign_fits(here, name, right), left),
         CStmt::Store(cell, address, atom) => {
-            address_fits(here, address) && stored_fits(here, *cell, atom)
+            let fits = address_fits(here, address) && stored_fits(here, *cell, atom);
+            counted(fits, left)
         }
-        CStmt::Call(call) => call_fits(here, call),
-        CStmt::If(atom, block) => fits(here, CKind::Int, atom) && block_keeps(block, here),
+        CStmt::Call(call) => counted(call_fits(here, call), left),
+        CStmt::If(atom, block) => {
+            counted(fits(here, CKind::Int, atom), left) && block_keeps(block, here, left)
+        }
         CStmt::IfElse(atom, block, other) => {
-            fits(here, CKind::Int, atom) && block_keeps(block, here) && block_keeps(other, here)
+            counted(fits(here, CKind::Int, atom), left)
+                && block_keeps(block, here, left)
+                && block_keeps(other, here, left)
         }
         CStmt::While(block) => {
             let inner = Here {
                 in_loop: true,
                 ..*here
             };
-            !here.inside_inline && block_keeps(block, &inner)
+            counted(!here.inside_inline, left) && block_keeps(block, &inner, left)
         }
-        CStmt::Break => here.in_loop,
-        CStmt::Continue => here.in_loop,
-        CStmt::Return => result_number(here.result) == 0,
-        CStmt::ReturnValue(atom) => returned_fits(here, atom),
+        CStmt::Break => counted(here.in_loop, left),
+        CStmt::Continue => counted(here.in_loop, left),
+        CStmt::Return => counted(result_number(here.result) == 0, left),
+        CStmt::ReturnValue(atom) => counted(returned_fits(here, atom), left),
     }
 }
 
 /// The same of a block.
 #[cycle(stmt_keeps)]
-pub fn block_keeps(block: &CBlock, here: &Here<'_>) -> bool
-    ensures { result ≡ keeps (block_breaks (here_view here.now) (block_view block.now)) }
+pub fn block_keeps(block: &CBlock, here: &Here<'_>, left: &mut usize) -> bool
+    ensures keeps { result ≡ keeps (block_breaks (here_view here.now) (block_view block.now)) }
+    ensures left { left.new ≡ left_of left.old (block_breaks (here_view here.now) (block_view block.now)) }
 {
     let scope = Scope::Block(block.locals.as_slice(), here.scope);
     let inner = Here {
         scope: &scope,
         ..*here
     };
-    code_keeps(block.body.as_slice(), &inner)
+    code_keeps(block.body.as_slice(), &inner, left)
 }
 
 #[cycle(stmt_keeps)]
-fn code_keeps(stmts: &[CStmt], here: &Here<'_>) -> bool
-    ensures { result ≡ keeps (code_breaks (here_view here.now) (code_view stmts.now)) }
+fn code_keeps(stmts: &[CStmt], here: &Here<'_>, left: &mut usize) -> bool
+    ensures keeps { result ≡ keeps (code_breaks (here_view here.now) (code_view stmts.now)) }
+    ensures left { left.new ≡ left_of left.old (code_breaks (here_view here.now) (code_view stmts.now)) }
 {
     for stmt in stmts {
-        if !stmt_keeps(stmt, here) {
+        if !stmt_keeps(stmt, here, left) {
             return false;
         }
     }

@@ -16,7 +16,7 @@ none : {X : Type 0} (xs : List X) (x : X) → xs ≡ [] → Has xs x → ⊥
 none [] x e h = elim h [ ]
 none (y ∷ ys) x e h = cc
 
-no_derived : (g : List Class) (c b : ℕ) → bases_of g c ≡ [] → Derives g c b → ⊥
+pub no_derived : (g : List Class) (c b : ℕ) → bases_of g c ≡ [] → Derives g c b → ⊥
 no_derived g c b e (direct x h _) = none (bases_of g c) x e h
 no_derived g c b e (through x h _) = none (bases_of g c) x e h
 

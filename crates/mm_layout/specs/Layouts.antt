@@ -1,18 +1,23 @@
 -- What a layout keeps of each class, and when it is that of a class list. Own.
-use Rattle.std.specs.Prelude.{◌≡◌, ℕ, ◌+◌, ◌<◌, ◌≤◌, ◌^◌, Bool, false, List, [], length, get_or}
+use Rattle.std.specs.Prelude.{◌≡◌, ℕ, ◌+◌, ◌<◌, ◌≤◌, ◌^◌, Bool, false, List, [], length, get_or, Option, None}
 use Rattle.std.specs.Bool.{Decides}
 use Rattle.mm_classes.specs.Classes.{Class, IsComplete, members_of}
 use Rattle.mm_classes.specs.Subobjects.{subobjects_of}
+use Rattle.mm_classes.specs.Questions.{IsNode}
 use Rattle.mm_layout.specs.Regions.{HasTag, offset_of, size_of, place_of}
+use Rattle.mm_layout.specs.Cells.{TellsTags, IsCell, IsTag}
 
--- Of one class: the offset of each subobject, in order, and then the size; the place of each member in its region.
+-- Of one class: the offset of each subobject, in order, and then the size; the place of each member in its region; for each
+-- subobject where the tag cell stands that it uses, and its tag.
 pub record Object : Type 0 where
   pub offsets : List ℕ
   pub places : List ℕ
+  pub cells : List (Option ℕ)
+  pub tags : List (Option ℕ)
 
 -- what stands at a number that no class has
 abbrev pub nothing : Object
-nothing = record { offsets = []; places = [] }
+nothing = record { offsets = []; places = []; cells = []; tags = [] }
 
 -- the object of a class
 abbrev pub object_at : List Object → ℕ → Object
@@ -37,10 +42,26 @@ pub record ArePlaces (g : List Class) (tagged : ℕ → Bool) (c : ℕ) (places 
   pub count : length places ≡ length (members_of g c)
   pub each : (k : ℕ) → k < length (members_of g c) → get_or places k 0 ≡ place_of g tagged c k
 
+-- where the tag cells of the subobjects of d stand
+pub record AreCells (g : List Class) (tagged : ℕ → Bool) (d : ℕ) (cells : List (Option ℕ)) : Type 0 where
+  pub count : length cells ≡ length (subobjects_of g d)
+  pub each : (n : ℕ) → IsNode g d n → IsCell g tagged d n (get_or cells n None)
+
+-- the tags of the subobjects of d
+pub record AreNumbers (g : List Class) (tagged : ℕ → Bool) (d : ℕ) (tags : List (Option ℕ)) : Type 0 where
+  pub count : length tags ≡ length (subobjects_of g d)
+  pub each : (n : ℕ) → IsNode g d n → IsTag g tagged d n (get_or tags n None)
+
+-- the object of a complete class
+pub record IsObjectOf (g : List Class) (tagged : ℕ → Bool) (c : ℕ) (o : Object) : Type 0 where
+  pub offsets : AreOffsets g tagged c o.offsets
+  pub places : ArePlaces g tagged c o.places
+  pub cells : AreCells g tagged c o.cells
+  pub tags : AreNumbers g tagged c o.tags
+
 -- the layout of a class list
 pub record IsLayoutOf (g : List Class) (l : List Object) : Type 0 where
   pub tagged : ℕ → Bool
-  pub tags : (c : ℕ) → c < length g → Decides (tagged c) (HasTag g c)
+  pub tells : TellsTags g tagged
   pub classes : length l ≡ length g
-  pub offsets : (d : ℕ) → IsComplete g d → AreOffsets g tagged d (object_at l d).offsets
-  pub places : (c : ℕ) → IsComplete g c → ArePlaces g tagged c (object_at l c).places
+  pub objects : (c : ℕ) → IsComplete g c → IsObjectOf g tagged c (object_at l c)

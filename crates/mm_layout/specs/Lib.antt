@@ -1,4 +1,5 @@
 pub mod Regions
+pub mod Cells
 pub mod Laws
 pub mod Layouts
 pub mod Kept

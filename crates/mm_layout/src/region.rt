@@ -4,7 +4,9 @@ ghost use Rattle.std.specs.Prelude.{◌≡◌, ◌<◌, ◌≤◌, ℕ, List, le
 ghost use Rattle.mm_classes.specs.Classes.{IsClassList, IsComplete};
 ghost use Rattle.mm_layout.specs.Regions.{region_of};
 ghost use Rattle.mm_layout.specs.Layouts.{AreOffsets, ArePlaces, test_of};
+ghost use Rattle.mm_layout.specs.Kept.{AreSorts};
 
+use crate::sorts::Sorts;
 use crate::tags::owns;
 use mm_classes::copies::{count_fields, is_a_field};
 use mm_classes::id::{ClassId, NodeId};
@@ -29,13 +31,13 @@ pub fn region(graph: &Graph, tags: &[bool], c: ClassId) -> u32
 pub fn offsets(
     alloc: Global,
     graph: &Graph,
-    tags: &[bool],
+    sorts: &Sorts,
     d: ClassId,
 ) -> Result<Vec<u32>, AllocError>
     requires valid { IsClassList graph.now }
     requires class { IsComplete graph.now d }
-    requires tags { length tags.now ≡ length graph.now }
-    ensures { IfOk result (λ v. AreOffsets graph.now (test_of tags.now) d v.items) }
+    requires sorts { AreSorts graph.now sorts.now }
+    ensures { IfOk result (λ v. AreOffsets graph.now (test_of sorts.now.tags.items) d v.items) }
 {
     let count = graph.count(d);
     let mut offsets = Vec::new(alloc);
@@ -43,7 +45,7 @@ pub fn offsets(
     let mut n = 0;
     while n < count {
         offsets.push(end)?;
-        end += region(graph, tags, graph.class_of(d, NodeId { number: n }));
+        end += sorts.region(graph.class_of(d, NodeId { number: n }));
         n += 1;
     }
     offsets.push(end)?;
@@ -54,17 +56,17 @@ pub fn offsets(
 pub fn places(
     alloc: Global,
     graph: &Graph,
-    tags: &[bool],
+    sorts: &Sorts,
     c: ClassId,
 ) -> Result<Vec<u32>, AllocError>
     requires valid { IsClassList graph.now }
     requires class { IsComplete graph.now c }
-    requires tags { length tags.now ≡ length graph.now }
-    ensures { IfOk result (λ v. ArePlaces graph.now (test_of tags.now) c v.items) }
+    requires sorts { AreSorts graph.now sorts.now }
+    ensures { IfOk result (λ v. ArePlaces graph.now (test_of sorts.now.tags.items) c v.items) }
 {
     let members = graph.members(c);
     let mut places = Vec::new(alloc);
-    let mut cells = if owns(graph, tags, c) { 1 } else { 0 };
+    let mut cells = if sorts.owns(c) { 1 } else { 0 };
     let mut k = 0;
     while k < members.len() {
         places.push(8 * cells)?;

@@ -2,6 +2,7 @@
 
 ghost use Rattle.std.specs.Prelude.{◌<◌, IsTrue, length};
 
+use crate::few::has_few_tags;
 use crate::layout::{Layout, get_layout};
 use mm_classes::class::{Access, Base};
 use mm_classes::id::{ClassId, NodeId};
@@ -50,15 +51,39 @@ fn last_and_size(layout: &Layout, d: ClassId, count: u32) -> Option<(u32, u32)> 
     Some((layout.offset(d, last), layout.size(d)))
 }
 
+// Where the tag cell of a subobject stands, and its tag.
+fn cell_and_tag(layout: &Layout, d: ClassId, count: u32, n: u32) -> (Option<u32>, Option<u32>) {
+    if n >= count || !layout.has_tags(d, count) {
+        return (None, None);
+    }
+    let node = NodeId { number: n };
+    (layout.cell(d, node), layout.tag_of(d, node))
+}
+
 #[test]
 fn diamonds_have_a_region_for_each_subobject(rt: HostRuntime) -> Result<(), Fail> {
     let mut plain = Graph::new(rt.alloc());
     let repeated = diamond(&mut plain, false).ok_or("no class")?;
+    if !has_few_tags(rt.alloc(), &plain)? {
+        return Err(Fail::from("many tags"));
+    }
     let layout = get_layout(rt.alloc(), &plain)?;
     assert_eq!(rt; last_and_size(&layout, repeated, 5), Some((32, 40)));
+    Ok(())
+}
+
+#[test]
+fn subobjects_of_a_virtual_diamond_share_tag_cells(rt: HostRuntime) -> Result<(), Fail> {
     let mut shared = Graph::new(rt.alloc());
-    let virtual_one = diamond(&mut shared, true).ok_or("no class")?;
+    let d = diamond(&mut shared, true).ok_or("no class")?;
+    if !has_few_tags(rt.alloc(), &shared)? {
+        return Err(Fail::from("many tags"));
+    }
     let layout = get_layout(rt.alloc(), &shared)?;
-    assert_eq!(rt; last_and_size(&layout, virtual_one, 4), Some((24, 32)));
+    assert_eq!(rt; last_and_size(&layout, d, 4), Some((24, 32)));
+    assert_eq!(rt; cell_and_tag(&layout, d, 4, 0), (Some(8), Some(2)));
+    assert_eq!(rt; cell_and_tag(&layout, d, 4, 1), (Some(8), Some(2)));
+    assert_eq!(rt; cell_and_tag(&layout, d, 4, 2), (Some(16), Some(3)));
+    assert_eq!(rt; cell_and_tag(&layout, d, 4, 3), (None, None));
     Ok(())
 }

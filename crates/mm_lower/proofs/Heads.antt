@@ -10,7 +10,7 @@ use Rattle.mm_c.specs.declared.tree.CLocal.{CLocal}
 use Rattle.mm_c.specs.Tree as c
 use Rattle.mm_c.specs.Tree.{◌⨾◌}
 use Rattle.mm_simulate.specs.Lowered.{locals_from, lowered_stmt, name_of, ending}
-use Rattle.mm_lower.specs.Scopes.{around_of, no_layout, program_of}
+use Rattle.mm_lower_trees.specs.Scopes.{around_of, no_layout, program_of}
 use Rattle.mm_lower.specs.Needed.{needed}
 use Rattle.mm_lower.specs.Written.{code_of, block_of}
 

@@ -1,5 +1,2 @@
-pub mod Named
 pub mod Needed
-pub mod Scopes
-pub mod Steps
 pub mod Written

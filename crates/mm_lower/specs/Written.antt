@@ -10,7 +10,7 @@ use Rattle.mm_c.specs.Tree as c
 use Rattle.mm_c.specs.Tree.{Code, ◌⨾◌}
 use Rattle.mm_simulate.specs.Lowered.{Defined, with_body, entry, others, is_defined, name_of, kind_of_result, locals_from, ending, reach_stmt, lowered_stmt, lowered_program, IsLoweredStmt}
 use Rattle.mm_simulate.specs.Simulates.{DeclareTheirs}
-use Rattle.mm_lower.specs.Scopes.{no_layout}
+use Rattle.mm_lower_trees.specs.Scopes.{no_layout}
 use Rattle.mm_lower.specs.Needed.{needed}
 
 -- The number of each temporary is one of 32 bits. (An expression has at most 1,000 tokens, and a

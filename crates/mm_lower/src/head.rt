@@ -6,12 +6,12 @@ ghost use Rattle.mm_core.specs.Run as run;
 ghost use Rattle.mm_core.specs.View.{function_view};
 ghost use Rattle.mm_simulate.specs.Lowered as lowered;
 
-use crate::name::Name;
-use crate::types::{is_same, kind_of};
 use mm_c::tree::{CKind, CLocal};
 use mm_classes::class::Ty;
 use mm_core::part::CoreParam;
 use mm_core::tree::CoreFn;
+use mm_lower_trees::name::Name;
+use mm_lower_trees::types::{is_same, kind_of};
 use sqlite_items::Items;
 use std::alloc::{AllocError, Global};
 

@@ -1,5 +1,5 @@
 -- What a name means. ISO/IEC 14882:1998, 3.3.2 (local scope), 3.3.7 (name hiding), 3.4.1 (unqualified name lookup).
-use Rattle.std.specs.Prelude.{◌≡◌, Bool, List, [], ◌∷◌, ◌++◌, ℕ, filter, map, Option, Some, None, if◌then◌else◌}
+use Rattle.std.specs.Prelude.{◌≡◌, List, [], ◌∷◌, ◌++◌, ℕ, filter, Option, Some, None, if◌then◌else◌}
 use Rattle.std.specs.Str.{bytes_eq}
 use Rattle.mm_classes.specs.declared.class.Ty.{Ty}
 use Rattle.mm_scopes.specs.declared.head.Var.{Var}
@@ -36,3 +36,7 @@ named x fs = filter (λ f. bytes_eq f.name x) fs
 
 abbrev pub params_of : FnHead → List Ty
 params_of f = f.params
+
+-- a variable of this name and type, and its number
+abbrev pub var : List ℕ → Ty → ℕ → Var
+var x type local = record { name = x; ty = type; local = local }

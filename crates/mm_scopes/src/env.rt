@@ -1,19 +1,26 @@
 //! The environment of an expression.
 
+ghost use Rattle.std.specs.Prelude.{◌≡◌, ◌<◌, ◌++◌, [], ◌∷◌, length, map, take, drop, slice_get, not, is_some, Some, IfOk, OnOk, OnErr};
+ghost use Rattle.std.specs.Option.{option_copied};
+ghost use Rattle.mm_scopes.specs.Names.{lookup, named, params_of, var};
+
+use crate::functions::Functions;
 use crate::head::{FnHead, Var};
+use crate::vars::Vars;
+use mm_classes::class::Ty;
 use mm_lookup::found::Context;
 use mm_paths::graph::Graph;
-use std::alloc::Global;
+use std::alloc::{AllocError, Global};
 use std::marker::Model;
 
-/// What is visible where an expression stands. To a contract it is an `Environment`.
+/// What is visible where an expression stands. To a contract it is an `Environment`. Each call but `leave`, `params` and `nth`
+/// takes about constant time, whatever is declared; `leave` takes about that for each variable.
 #[derive(Drop)]
 pub struct Env {
-    alloc: Global,
     graph: Graph,
     from: Context,
-    vars: Vec<Var>,
-    functions: Vec<FnHead>,
+    vars: Vars,
+    functions: Functions,
 }
 
 impl Model for Env {
@@ -21,5 +28,99 @@ impl Model for Env {
 
     ghost Value = { Environment };
 
-    ghost view = { λ e. record { classes = e.graph; from = e.from; vars = e.vars.items; functions = e.functions.items } };
+    ghost view = { λ e. record { classes = e.graph; from = e.from; vars = e.vars; functions = e.functions } };
+}
+
+impl Env {
+    /// An environment without variables and functions.
+    pub fn new(alloc: Global, graph: Graph, from: Context) -> Env
+        ensures { result ≡ record { classes = graph; from = from; vars = []; functions = [] } }
+    {
+        Env {
+            graph,
+            from,
+            vars: Vars::new(alloc),
+            functions: Functions::new(alloc),
+        }
+    }
+
+    /// The classes.
+    pub fn graph(&self) -> &Graph
+        ensures { result.now ≡ self.now.classes }
+    {
+        &self.graph
+    }
+
+    /// From where members are used.
+    pub fn from(&self) -> Context
+        ensures { result ≡ self.now.from }
+    {
+        self.from
+    }
+
+    /// How many variables there are. A scope begins with this number, which its end gives to `leave`.
+    pub fn enter(&self) -> usize
+        ensures { result ≡ length self.now.vars }
+    {
+        self.vars.len()
+    }
+
+    /// The end of a scope that began with so many variables: those declared in it are forgotten.
+    pub fn leave(&mut self, outer: usize)
+        ensures { self.new ≡ record self.old { vars = take outer self.old.vars } }
+    {
+        self.vars.leave(outer);
+    }
+
+    /// The variable that a name means.
+    pub fn lookup(&self, name: &str) -> Option<&Var>
+        ensures { option_copied result ≡ lookup self.now.vars name.now }
+    {
+        self.vars.lookup(name)
+    }
+
+    /// Whether no variable has the name in the scope that began with so many variables.
+    pub fn is_new(&self, outer: usize, name: &str) -> bool
+        ensures { result ≡ not (is_some (lookup (drop outer self.now.vars) name.now)) }
+    {
+        self.vars.is_new(outer, name)
+    }
+
+    /// Declares a variable in the innermost scope.
+    pub fn declare(&mut self, name: &str, ty: Ty, local: u32) -> Result<(), AllocError>
+        ensures ok { OnOk result (self.new ≡ record self.old { vars = self.old.vars ++ var name.now ty local ∷ [] }) }
+        ensures err { OnErr result (self.new ≡ self.old) }
+    {
+        self.vars.declare(name, ty, local)
+    }
+
+    /// Declares a function.
+    pub fn declare_function(&mut self, head: FnHead) -> Result<(), AllocError>
+        ensures ok { OnOk result (self.new ≡ record self.old { functions = self.old.functions ++ head ∷ [] }) }
+        ensures err { OnErr result (self.new ≡ self.old) }
+    {
+        self.functions.declare(head)
+    }
+
+    /// How many functions have the name.
+    pub fn count_named(&self, name: &str) -> usize
+        ensures { result ≡ length (named name.now self.now.functions) }
+    {
+        self.functions.count(name)
+    }
+
+    /// The function of a name that has this number among those of the name, in the order of their declarations.
+    pub fn nth_named(&self, name: &str, i: usize) -> &FnHead
+        requires { i < length (named name.now self.now.functions) }
+        ensures { slice_get (named name.now self.now.functions) i ≡ Some result.now }
+    {
+        self.functions.nth(name, i)
+    }
+
+    /// The types of the parameters of each function of a name, in the order of their declarations.
+    pub fn params_named(&self, name: &str) -> Result<Vec<&[Ty]>, AllocError>
+        ensures { IfOk result (λ all. map (λ ps. ps.now) all.items ≡ map params_of (named name.now self.now.functions)) }
+    {
+        self.functions.params(name)
+    }
 }

@@ -2,4 +2,6 @@
 #![tactic(auto)]
 
 pub mod env;
+pub(crate) mod functions;
 pub mod head;
+pub(crate) mod vars;

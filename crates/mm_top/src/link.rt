@@ -18,7 +18,7 @@ use mm_base::outside::Files;
 use mm_c_print::print;
 use mm_command::writing::Outcome;
 use mm_core::tree::CoreFn;
-use mm_lower::program::lower_program;
+use mm_emit::program::lower_program;
 use mm_verdict::unit::sound_unit;
 use std::alloc::Global;
 

@@ -1,5 +1,5 @@
 -- The check of a statement gives what the relations say: one line a statement.
-use Rattle.std.proofs.Common.{◌≡◌, ℕ, List, [], ◌∷◌, ◌++◌, length, refl, inl, inr}
+use Rattle.std.proofs.Common.{◌≡◌, ℕ, List, [], ◌∷◌, ◌++◌, length, refl, ap, ◌∙◌, inl, inr}
 use Rattle.std.specs.Prelude.{Option, Some, None, Ok}
 use Rattle.mm_base.specs.declared.place.Place.{Place}
 use Rattle.mm_classes.specs.declared.class.Ty.{Ty}
@@ -19,9 +19,9 @@ use Rattle.mm_typing.proofs.Reading.{reads, as_reads}
 use Rattle.mm_unit_typing.specs.declared.here.Here.{Here}
 use Rattle.mm_unit_typing.specs.Declarators.{scalar_of, unbuilt, Names, NamesNone}
 use Rattle.mm_unit_typing.specs.Scopes.{inside, within, turn_within, variable, behind, behind_start}
-use Rattle.mm_unit_typing.specs.Made.{Made}
+use Rattle.mm_unit_typing.specs.Made.{Made, made}
 use Rattle.mm_unit_typing.specs.Statements.{MayStand, MayNotStand, IsYours, IsNotYours, Begins, BeginsNot, AllBegin, SomeBeginsNot, VariablesType, VariablesFault, StartTypes, StartFaults, TestTypes, TestFaults, StepTypes, StepFaults, LoopTypes, LoopFaults, StmtTypes, StmtsType, StmtFaults, StmtsFault}
-use Rattle.mm_unit_typing.specs.Judge.{built, judge_type, may_stand, is_yours, judge_begin, judge_begins, judge_variables, judge_start, judge_test, judge_step, judge_loop, judge_stmt, judge_stmts}
+use Rattle.mm_unit_typing.specs.Judge.{built, judge_type, may_stand, is_yours, judge_begin, judge_begins, judge_variables, judge_start, judge_test, judge_step, judge_loop, judge_return, judge_stmt, judge_stmts}
 
 -- ---- types and names
 
@@ -45,35 +45,52 @@ module _ {A B : Type 0} where
 
 module _ (env : Environment) where
   begins : (here : Here) (t : Ty) (vs : List Var) (n : ℕ) (mark : Option DeclaratorMark) (name : Name) (x : Initializer) → Reads (judge_begin env here t vs n mark name x) (Begins env here t vs n mark name x) (BeginsNot env here t vs mark name x)
+  unfolding judge_begin
   begins here t vs n mark name no_initial = part (stands here.outer vs t mark name) λ u. last (yours name) _
   begins here t vs n mark name (initial e) = part (reads (inside env vs) e) λ x. part (stands here.outer vs t mark name) λ u. part (becomes t e x) λ c. last (yours name) _
   begins here t vs n mark name (arguments es) = fails _
 
   all_begin : (here : Here) (t : Ty) (vs : List Var) (locals : List Ty) (xs : List Declarator) → Reads (judge_begins env here t vs locals xs) (AllBegin env here t vs locals xs) (SomeBeginsNot env here t vs locals xs)
+  unfolding judge_begins
   all_begin here t vs locals [] = gives _
   all_begin here t vs locals (x ∷ xs) = part (begins here t vs (length locals) x.mark x.name x.initializer) λ s. last (all_begin here t (vs ++ variable x.name.text t (length locals) ∷ []) (locals ++ t ∷ []) xs) _
 
   variables : (here : Here) (vs : List Var) (locals : List Ty) (x : Variables) → Reads (judge_variables env here vs locals x) (VariablesType env here vs locals x) (VariablesFault env here vs locals x)
+  unfolding judge_variables
   variables here vs locals x = part (type_reads x.type_name) λ t. all_begin here t vs locals x.names
 
   start : (here : Here) (vs : List Var) (locals : List Ty) (x : Start) → Reads (judge_start env here vs locals x) (StartTypes env here vs locals x) (StartFaults env here vs locals x)
+  unfolding judge_start
   start here vs locals no_start = gives _
   start here vs locals (start_expr e) = last (reads (inside env vs) e) _
   start here vs locals (start_variables x) = variables here vs locals x
 
   test : (vs : List Var) (x : Option Expr) → Reads (judge_test env vs x) (TestTypes env vs x) (TestFaults env vs x)
+  unfolding judge_test
   test vs None = gives _
   test vs (Some e) = as_reads (inside env vs) ty.Bool e
 
   step : (vs : List Var) (x : Option Expr) → Reads (judge_step env vs x) (StepTypes env vs x) (StepFaults env vs x)
+  unfolding judge_step
   step vs None = gives _
   step vs (Some e) = last (reads (inside env vs) e) _
 
   loop : (vs : List Var) (c s : Option Expr) (body : Checked (Made (List k.Stmt))) (T : Made (List k.Stmt) → Type 0) (F : Fault → Type 0) → Reads body T F
       → Reads (judge_loop env vs c s body) (LoopTypes env vs c s T) (LoopFaults env vs c s F)
+  unfolding judge_loop
   loop vs c s body T F h = part (test vs c) λ t. part (step vs s) λ u. last h _
 
+  returned : (here : Here) (vs : List Var) (locals : List Ty) (p : Place) (e : Expr) → Reads (judge_stmt env here vs locals (return p e)) (StmtTypes env here vs locals (return p e)) (StmtFaults env here vs locals (return p e))
+  unfolding judge_stmt judge_return
+  returned here vs locals p e = as_said (last (part (reads (inside env vs) e) λ x. part (met _ _) λ u. last (becomes here.result e x) _) _)
+    (λ v t. let r = t.1 in (r.0, r.1, (r.2.0, r.2.1, (r.2.2.0, r.2.2.1, ap (λ s. made (s ∷ []) locals) r.2.2.2 ∙ t.2))))
+    (λ v t. (k.return t.2.2.0, (t.0, t.1, (t.2.0, t.2.1, (t.2.2.0, t.2.2.1, refl))), t.2.2.2))
+    (λ f t. t)
+    (λ f t. t)
+
   mutual
+    unfolding judge_stmt judge_stmts
+
     pub stmt_reads : (here : Here) (vs : List Var) (locals : List Ty) (s : Stmt) → Reads (judge_stmt env here vs locals s) (StmtTypes env here vs locals s) (StmtFaults env here vs locals s)
     stmt_reads here vs locals (block p ss) = stmts_read (within here vs) vs locals ss
     stmt_reads here vs locals (empty p) = gives _
@@ -87,7 +104,7 @@ module _ (env : Environment) where
     stmt_reads here vs locals (break p) = last (met _ _) _
     stmt_reads here vs locals (continue p) = last (met _ _) _
     stmt_reads here vs locals (return_nothing p) = last (met _ _) _
-    stmt_reads here vs locals (return p e) = part (reads (inside env vs) e) λ x. part (met _ _) λ u. last (becomes here.result e x) _
+    stmt_reads here vs locals (return p e) = returned here vs locals p e
 
     pub stmts_read : (here : Here) (vs : List Var) (locals : List Ty) (ss : Stmts) → Reads (judge_stmts env here vs locals ss) (StmtsType env here vs locals ss) (StmtsFault env here vs locals ss)
     stmts_read here vs locals no_stmts = gives _

@@ -17,7 +17,7 @@ use Rattle.mm_unit_typing.specs.Declarators.{unbuilt}
 use Rattle.mm_unit_typing.specs.Scopes.{parameter, parameters_from}
 use Rattle.mm_unit_typing.specs.Functions.{IsOrdinary, IsVirtual, MayBeParameter, MayBeNoParameter, ParamType, ParamFault, ParamsType, ParamsFault, HeadTypes, HeadFault, with_function, seen}
 use Rattle.mm_unit_typing.specs.Units.{FunctionTypes, FunctionFaults, DeclTypes, DeclFaults, DeclsType, DeclsFault, UnitTypes, UnitFaults, body_here}
-use Rattle.mm_unit_typing.specs.JudgeUnit.{ordinary, may_be_parameter, judge_param, judge_params, judge_head, judge_function, judge_decl, judge_decls, judge_unit}
+use Rattle.mm_unit_typing.specs.JudgeUnit.{ordinary, may_be_parameter, judge_param, judge_params, judge_own_head, judge_head, judge_body, judge_function, judge_decl, judge_decls, judge_unit}
 use Rattle.mm_unit_typing.proofs.Statements.{type_reads, stands, yours, last, stmt_reads}
 
 is_ordinary : (o : Option Place) → Reads (ordinary o) (IsOrdinary o) (IsVirtual o)
@@ -29,16 +29,20 @@ may_be vs t mark x None = met _ _
 may_be vs t mark x (Some name) = part (stands 0 vs t mark name) λ u. yours name
 
 param : (vs : List Var) (q : Param) → Reads (judge_param vs q) (ParamType vs q) (ParamFault vs q)
+unfolding judge_param
 param vs q = part (is_ordinary q.virtual_at) λ u. part (type_reads q.type_name) λ t. last (may_be vs t q.mark q.type_name q.name) _
 
 params : (n : ℕ) (vs : List Var) (qs : List Param) → Reads (judge_params n vs qs) (ParamsType n vs qs) (ParamsFault n vs qs)
+unfolding judge_params
 params n vs [] = gives _
 params n vs (q ∷ qs) = part (param vs q) λ t. last (params (n + 1) (vs ++ parameter n q) qs) _
 
 pub head_reads : (fs : List k.Function) (defines : Bool) (x : Head) → Reads (judge_head fs defines x) (HeadTypes fs defines x) (HeadFault fs defines x)
+unfolding judge_head judge_own_head
 head_reads fs defines x = part (type_reads x.type_name) λ t. part (params 0 [] x.params.list) λ ts. part (met _ _) λ u. part (met _ _) λ v. part (yours x.name) λ w. last (met _ _) _
 
 pub function_reads : (fs : List k.Function) (x : Function) → Reads (judge_function fs x) (FunctionTypes fs x) (FunctionFaults fs x)
+unfolding judge_function judge_body
 function_reads fs (declaration p x) = last (head_reads fs false x) _
 function_reads fs (definition p x body) = part (head_reads fs true x) λ h. last (stmt_reads (seen (with_function fs x.name h)) (body_here x h) (parameters_from 0 x.params.list) h.params body) _
 function_reads fs (member_definition p class x body) = fails _
@@ -48,12 +52,15 @@ function_reads fs (destructor p virtual_at word has_void) = fails _
 function_reads fs (constructor p word params body) = fails _
 
 pub decl_reads : (fs : List k.Function) (x : Decl) → Reads (judge_decl fs x) (DeclTypes fs x) (DeclFaults fs x)
+unfolding judge_decl
 decl_reads fs (function_decl p x) = function_reads fs x
 decl_reads fs (class_decl p x) = fails _
 
 pub decls_read : (fs : List k.Function) (xs : List Decl) → Reads (judge_decls fs xs) (DeclsType fs xs) (DeclsFault fs xs)
+unfolding judge_decls
 decls_read fs [] = gives _
 decls_read fs (x ∷ xs) = part (decl_reads fs x) λ next. decls_read next xs
 
 pub unit_reads : (u : UnitTree) → Reads (judge_unit u) (UnitTypes u) (UnitFaults u)
+unfolding judge_unit
 unit_reads u = last (decls_read [] u.decls) _

@@ -37,8 +37,14 @@ may_stand outer vs t mark name = do
 abbrev pub is_yours : Name → Checked (Unit {0})
 is_yours name = demand (not (is_reserved name.text)) (is_not_yours name)
 
+abbrev pub judge_jump : Here → Place → List ℕ → Checked (Unit {0})
+judge_jump here p word = demand here.in_loop (at S13 p word)
+
+abbrev pub judge_void : Here → Place → Checked (Unit {0})
+judge_void here p = demand (is_void here.result) (at S14 p (codes "return"))
+
 module _ (env : Environment) where
-  abbrev pub judge_begin : Here → Ty → List Var → ℕ → Option DeclaratorMark → Name → Initializer → Checked k.Stmt
+  unfoldable pub judge_begin : Here → Ty → List Var → ℕ → Option DeclaratorMark → Name → Initializer → Checked k.Stmt
   judge_begin here t vs n mark name no_initial = do
     u ← may_stand here.outer vs t mark name
     w ← is_yours name
@@ -51,53 +57,50 @@ module _ (env : Environment) where
     Ok (k.run (k.set_local n c))
   judge_begin here t vs n mark name (arguments es) = Err (unbuilt (mark_or mark name.place))
 
-  abbrev pub judge_begins : Here → Ty → List Var → List Ty → List Declarator → Checked (Made (List k.Stmt))
+  unfoldable pub judge_begins : Here → Ty → List Var → List Ty → List Declarator → Checked (Made (List k.Stmt))
   judge_begins here t vs locals [] = Ok (made [] locals)
   judge_begins here t vs locals (x ∷ xs) = do
     s ← judge_begin here t vs (length locals) x.mark x.name x.initializer
     rest ← judge_begins here t (vs ++ variable x.name.text t (length locals) ∷ []) (locals ++ t ∷ []) xs
     Ok (made (s ∷ rest.tree) rest.locals)
 
-  abbrev pub judge_variables : Here → List Var → List Ty → Variables → Checked (Made (List k.Stmt))
+  unfoldable pub judge_variables : Here → List Var → List Ty → Variables → Checked (Made (List k.Stmt))
   judge_variables here vs locals x = do
     t ← judge_type x.type_name
     judge_begins here t vs locals x.names
 
-  abbrev pub judge_start : Here → List Var → List Ty → Start → Checked (Made (List k.Stmt))
+  unfoldable pub judge_start : Here → List Var → List Ty → Start → Checked (Made (List k.Stmt))
   judge_start here vs locals no_start = Ok (made (block_of [] ∷ []) locals)
   judge_start here vs locals (start_expr e) = do
     x ← judge (inside env vs) e
     Ok (made (k.run x.core ∷ []) locals)
   judge_start here vs locals (start_variables x) = judge_variables here vs locals x
 
-  abbrev pub judge_test : List Var → Option Expr → Checked k.Expr
+  unfoldable pub judge_test : List Var → Option Expr → Checked k.Expr
   judge_test vs None = Ok (k.bool true)
   judge_test vs (Some e) = judge_as (inside env vs) ty.Bool e
 
-  abbrev pub judge_step : List Var → Option Expr → Checked k.Stmt
+  unfoldable pub judge_step : List Var → Option Expr → Checked k.Stmt
   judge_step vs None = Ok (block_of [])
   judge_step vs (Some e) = do
     x ← judge (inside env vs) e
     Ok (k.run x.core)
 
-  abbrev pub judge_loop : List Var → Option Expr → Option Expr → Checked (Made (List k.Stmt)) → Checked (Made k.Stmt)
+  unfoldable pub judge_loop : List Var → Option Expr → Option Expr → Checked (Made (List k.Stmt)) → Checked (Made k.Stmt)
   judge_loop vs c s body = do
     test ← judge_test vs c
     step ← judge_step vs s
     x ← body
     Ok (made (k.for_do test step (stmts_of x.tree)) x.locals)
 
-  abbrev pub judge_jump : Here → Place → List ℕ → Checked (Unit {0})
-  judge_jump here p word = demand here.in_loop (at S13 p word)
-
-  abbrev pub judge_return : Here → List Var → List Ty → Place → Expr → Checked (Made (List k.Stmt))
-  judge_return here vs locals p e = do
+  unfoldable pub judge_return : Here → List Var → Place → Expr → Checked k.Stmt
+  judge_return here vs p e = do
     x ← judge (inside env vs) e
     u ← demand (not (is_void here.result)) (at S14 p (codes "return"))
     c ← as_type here.result e x
-    Ok (made (k.return c ∷ []) locals)
+    Ok (k.return c)
 
-  abbrev mutual
+  unfoldable mutual
     pub judge_stmt : Here → List Var → List Ty → Stmt → Checked (Made (List k.Stmt))
     judge_stmt here vs locals (block p ss) = judge_stmts (within here vs) vs locals ss
     judge_stmt here vs locals (empty p) = Ok (made [] locals)
@@ -134,9 +137,11 @@ module _ (env : Environment) where
       u ← judge_jump here p (codes "continue")
       Ok (made (k.continue ∷ []) locals)
     judge_stmt here vs locals (return_nothing p) = do
-      u ← demand (is_void here.result) (at S14 p (codes "return"))
+      u ← judge_void here p
       Ok (made (k.return_nothing ∷ []) locals)
-    judge_stmt here vs locals (return p e) = judge_return here vs locals p e
+    judge_stmt here vs locals (return p e) = do
+      s ← judge_return here vs p e
+      Ok (made (s ∷ []) locals)
 
     pub judge_stmts : Here → List Var → List Ty → Stmts → Checked (Made (List k.Stmt))
     judge_stmts here vs locals no_stmts = Ok (made [] locals)

@@ -30,21 +30,21 @@ may_be_parameter vs t mark x (Some name) = do
   u ← may_stand 0 vs t mark name
   is_yours name
 
-abbrev pub judge_param : List Var → Param → Checked Ty
+unfoldable pub judge_param : List Var → Param → Checked Ty
 judge_param vs q = do
   u ← ordinary q.virtual_at
   t ← judge_type q.type_name
   w ← may_be_parameter vs t q.mark q.type_name q.name
   Ok t
 
-abbrev pub judge_params : ℕ → List Var → List Param → Checked (List Ty)
+unfoldable pub judge_params : ℕ → List Var → List Param → Checked (List Ty)
 judge_params n vs [] = Ok []
 judge_params n vs (q ∷ qs) = do
   t ← judge_param vs q
   ts ← judge_params (n + 1) (vs ++ parameter n q) qs
   Ok (t ∷ ts)
 
-abbrev pub judge_own_head : List k.Function → Bool → Head → Ty → List Ty → Checked Heading
+unfoldable pub judge_own_head : List k.Function → Bool → Head → Ty → List Ty → Checked Heading
 judge_own_head fs defines x t ts = do
   u ← demand (may_declare fs x.name.text (heading t ts) defines) (declared_twice x.name)
   v ← demand (is_unmarked x.mark) (wrong_kind x.mark x.name)
@@ -52,16 +52,16 @@ judge_own_head fs defines x t ts = do
   z ← demand (few_params ts) (too_many x.name)
   Ok (heading t ts)
 
-abbrev pub judge_head : List k.Function → Bool → Head → Checked Heading
+unfoldable pub judge_head : List k.Function → Bool → Head → Checked Heading
 judge_head fs defines x = do
   t ← judge_type x.type_name
   ts ← judge_params 0 [] x.params.list
   judge_own_head fs defines x t ts
 
-abbrev pub judge_body : List k.Function → Head → Heading → Stmt → Checked (Made (List k.Stmt))
+unfoldable pub judge_body : List k.Function → Head → Heading → Stmt → Checked (Made (List k.Stmt))
 judge_body fs x h body = judge_stmt (seen fs) (body_here x h) (parameters_from 0 x.params.list) h.params body
 
-abbrev pub judge_function : List k.Function → Function → Checked (List k.Function)
+unfoldable pub judge_function : List k.Function → Function → Checked (List k.Function)
 judge_function fs (declaration p x) = do
   h ← judge_head fs false x
   Ok (with_function fs x.name h)
@@ -71,17 +71,17 @@ judge_function fs (definition p x body) = do
   Ok (defined (with_function fs x.name h) x.name h b)
 judge_function fs other = Err (unbuilt (place_of other))
 
-abbrev pub judge_decl : List k.Function → Decl → Checked (List k.Function)
+unfoldable pub judge_decl : List k.Function → Decl → Checked (List k.Function)
 judge_decl fs (function_decl p x) = judge_function fs x
 judge_decl fs (class_decl p x) = Err (unbuilt p)
 
-abbrev pub judge_decls : List k.Function → List Decl → Checked (List k.Function)
+unfoldable pub judge_decls : List k.Function → List Decl → Checked (List k.Function)
 judge_decls fs [] = Ok fs
 judge_decls fs (x ∷ xs) = do
   next ← judge_decl fs x
   judge_decls next xs
 
-abbrev pub judge_unit : UnitTree → Checked units.Checked
+unfoldable pub judge_unit : UnitTree → Checked units.Checked
 judge_unit u = do
   fs ← judge_decls [] u.decls
   Ok (unit_of u fs)

@@ -13,11 +13,11 @@ loop-n-preserved c =
     record {
       low = omega arith;
       long = ap length c.in_ok-push.ensures.items ∙ length_push c.loop-n.offsets.items c.loop-n.end ∙ ap (λ n. n + 1) c.loop-n.invariant.long;
-      each = pushed (λ k v. v ≡ offset_of c.args.graph.now (test_of c.args.tags.now) c.args.d k) c.loop-n.offsets.items c.push.new.self.items c.loop-n.n c.loop-n.end 0
+      each = pushed (λ k v. v ≡ offset_of c.args.graph.now (test_of c.args.sorts.now.tags.items) c.args.d k) c.loop-n.offsets.items c.push.new.self.items c.loop-n.n c.loop-n.end 0
           c.loop-n.invariant.long c.loop-n.invariant.each c.loop-n.invariant.end_is c.in_ok-push.ensures.items;
       end_is = ap (λ x. x + c.region-end.result) c.loop-n.invariant.end_is
-          ∙ ap (λ x. offset_of c.args.graph.now (test_of c.args.tags.now) c.args.d c.loop-n.n + x)
-          (c.region-end.ensures.region ∙ ap (region_of c.args.graph.now (test_of c.args.tags.now)) c.class_of.ensures.class)
-          ∙ sym (offset-more c.args.graph.now (test_of c.args.tags.now) c.args.d c.loop-n.n here);
-      small = omega (arith, c.loop-n.invariant.small, c.region-end.ensures.small);
+          ∙ ap (λ x. offset_of c.args.graph.now (test_of c.args.sorts.now.tags.items) c.args.d c.loop-n.n + x)
+          (c.region-end.ensures ∙ c.requires.sorts.regions.each c.class_of.result c.class_of.ensures.complete ∙ ap (region_of c.args.graph.now (test_of c.args.sorts.now.tags.items)) c.class_of.ensures.class)
+          ∙ sym (offset-more c.args.graph.now (test_of c.args.sorts.now.tags.items) c.args.d c.loop-n.n here);
+      small = omega (arith, c.loop-n.invariant.small, c.region-end.ensures, c.requires.sorts.regions.small c.class_of.result c.class_of.ensures.complete);
     }

@@ -7,8 +7,8 @@ abbrev pub invariant-loop-n : goal.invariant-loop-n
 invariant-loop-n l = record {
   low : l.n ≤ l.count;
   long : length l.offsets.items ≡ l.n;
-  each : (k : ℕ) → k < l.n → get_or l.offsets.items k 0 ≡ offset_of l.graph (test_of l.tags) l.d k;
-  end_is : l.end ≡ offset_of l.graph (test_of l.tags) l.d l.n;
+  each : (k : ℕ) → k < l.n → get_or l.offsets.items k 0 ≡ offset_of l.graph (test_of l.sorts.tags.items) l.d k;
+  end_is : l.end ≡ offset_of l.graph (test_of l.sorts.tags.items) l.d l.n;
   small : l.end ≤ l.n * 4194312;
 }
 

@@ -8,8 +8,8 @@ abbrev pub invariant-loop-k : goal.invariant-loop-k
 invariant-loop-k l = record {
   low : l.k ≤ length l.members;
   long : length l.places.items ≡ l.k;
-  each : (j : ℕ) → j < l.k → get_or l.places.items j 0 ≡ place_of l.graph (test_of l.tags) l.fn.c j;
-  cells_are : l.cells ≡ own_cells l.graph (test_of l.tags) l.fn.c + field_count (take l.k l.members);
+  each : (j : ℕ) → j < l.k → get_or l.places.items j 0 ≡ place_of l.graph (test_of l.sorts.tags.items) l.fn.c j;
+  cells_are : l.cells ≡ own_cells l.graph (test_of l.sorts.tags.items) l.fn.c + field_count (take l.k l.members);
 }
 
 abbrev pub decreases-loop-k : goal.decreases-loop-k

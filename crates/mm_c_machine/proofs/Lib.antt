@@ -1,0 +1,11 @@
+pub mod Frames
+pub mod Ints
+pub mod Answering
+pub mod Stack
+pub mod Moves
+pub mod Growth
+pub mod Giving
+pub mod Arrivals
+pub mod Statements
+pub mod Ways
+pub mod Running

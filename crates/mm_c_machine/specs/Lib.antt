@@ -1,0 +1,7 @@
+pub mod Answers
+pub mod Frames
+pub mod State
+pub mod Ready
+pub mod Goes
+pub mod Parts
+pub mod Runs

@@ -1,0 +1,5 @@
+//! The memory of a C program that runs, and its operators.
+#![tactic(auto)]
+
+pub mod memory;
+pub mod operate;

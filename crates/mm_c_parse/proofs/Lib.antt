@@ -1,0 +1,5 @@
+pub mod Steps
+pub mod Words
+pub mod Skips
+pub mod Ops
+pub mod Lists

@@ -1,0 +1,6 @@
+//! Which program a C text spells, or where it is refused.
+#![tactic(auto)]
+
+pub mod operand;
+pub mod right;
+pub mod step;

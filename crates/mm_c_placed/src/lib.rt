@@ -1,0 +1,5 @@
+//! C programs in which numbers stand for names, and what they mean.
+#![tactic(auto)]
+
+pub mod laws;
+pub mod tree;

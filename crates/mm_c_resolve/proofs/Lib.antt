@@ -1,0 +1,4 @@
+pub mod Numbered
+pub mod Walk
+pub mod Codes
+pub mod Programs

@@ -1,0 +1,3 @@
+pub mod Suffix
+pub mod Firsts
+pub mod Left

@@ -1,0 +1,13 @@
+use Rattle.std.proofs.Common.{◌≡◌, ◌+◌, length}
+use Rattle.std.specs.List.{prefix_len}
+use Rattle.mm_c.specs.Tokens.{is_word_byte}
+use Rattle.mm_c_text.proofs.scan.word_length.Given as goal
+
+abbrev pub invariant-loop-rest : goal.invariant-loop-rest
+invariant-loop-rest l = record {
+  value : l.count + prefix_len is_word_byte l.rest ≡ prefix_len is_word_byte l.text;
+  within : l.count + length l.rest ≡ length l.text;
+}
+
+abbrev pub decreases-loop-rest : goal.decreases-loop-rest
+decreases-loop-rest l = length l.rest

@@ -1,0 +1,4 @@
+pub mod Places
+pub mod Scan
+pub mod Classes
+pub mod Cursor

@@ -1,5 +1,0 @@
-use Rattle.mm_lower.proofs.Programs.{writable_at}
-use Rattle.mm_lower.proofs.program.lower_item.Goals as goal
-
-pub lower_fn-requires-clause-writable : goal.lower_fn-requires-clause-writable
-lower_fn-requires-clause-writable c = writable_at c.args.functions.now c.args.number c.args.function.now c.in-Some.body c.requires.writable c.requires.there c.in-Some.is

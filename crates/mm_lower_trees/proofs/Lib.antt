@@ -1,0 +1,4 @@
+pub mod Digits
+pub mod Sizes
+pub mod Exprs
+pub mod Stmts

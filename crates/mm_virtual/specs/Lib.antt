@@ -1,0 +1,4 @@
+pub mod Overriders
+pub mod Results
+pub mod Finals
+pub mod Kept
