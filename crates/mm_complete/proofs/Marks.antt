@@ -1,8 +1,8 @@
 -- Which numbers are marked, and which function is lacking by that.
-use Rattle.std.proofs.Common.{◌≡◌, ℕ, zero, suc, ◌+◌, ◌<◌, ◌≤◌, Bool, true, false, List, [], ◌∷◌, ◌++◌, length, get_or, drop, set, map, Option, Some, None, refl, sym, ap, ◌∙◌, subst, arith}
+use Rattle.std.proofs.Common.{◌≡◌, ℕ, zero, suc, ◌+◌, ◌<◌, ◌≤◌, Bool, true, false, List, [], ◌∷◌, ◌++◌, length, get_or, drop, set, replicate, map, Option, Some, None, refl, sym, ap, ◌∙◌, subst, arith}
 use Rattle.std.specs.Prelude.{◌||◌, nat_eq, if◌then◌else◌}
 use Rattle.std.proofs.lemmas.Bool.{eqb-true, eqb-false}
-use Rattle.std.proofs.lemmas.List.{drop_all, drop_more, get_or-set_same, get_or-set_other}
+use Rattle.std.proofs.lemmas.List.{drop_all, drop_more, get_or-set_same, get_or-set_other, get_or-replicate, length-replicate}
 use Rattle.mm_classes.specs.Lists.{has}
 use Rattle.mm_core.specs.declared.tree.CoreFn.{CoreFn}
 use Rattle.mm_core.specs.Tree.{Function}
@@ -54,14 +54,21 @@ end n numbers i marks past so = record {
   each = λ k low. sym (or_false (get_or marks k false)) ∙ ap (λ l. get_or marks k false || has l k) (sym (drop_all i numbers past)) ∙ so.each k low;
 }
 
-pub next : (n : ℕ) (numbers : List ℕ) (i m : ℕ) (marks marks' : List Bool) → m ≡ get_or numbers i m → i < length numbers → SoFar n numbers i marks → length marks' ≡ length marks → MarksOne marks m marks' → SoFar n numbers (i + 1) marks'
-next n numbers i m marks marks' is low so same one = record {
+pub next : (n : ℕ) (numbers : List ℕ) (i : ℕ) (marks marks' : List Bool) → i < length numbers → SoFar n numbers i marks → length marks' ≡ length marks → MarksOne marks (get_or numbers i 0) marks' → SoFar n numbers (i + 1) marks'
+next n numbers i marks marks' low so same one = record {
   lengths = same ∙ so.lengths;
   each = λ k h.
-    let split : drop i numbers ≡ m ∷ drop (i + 1) numbers = drop_more numbers i m low ∙ ap (λ y. y ∷ drop (i + 1) numbers) (sym is) in
+    let rest = drop (i + 1) numbers in
+    let split : drop i numbers ≡ get_or numbers i 0 ∷ rest = drop_more numbers i 0 low in
     let below : k < length marks = omega (arith, h, so.lengths) in
-    ap (λ b. b || has (drop (i + 1) numbers) k) (one k below) ∙ or_assoc (get_or marks k false) (nat_eq m k) (has (drop (i + 1) numbers) k)
+    ap (λ b. b || has rest k) (one k below) ∙ or_assoc (get_or marks k false) (nat_eq (get_or numbers i 0) k) (has rest k)
     ∙ ap (λ l. get_or marks k false || has l k) (sym split) ∙ so.each k h;
+}
+
+pub start : (n : ℕ) (numbers : List ℕ) (marks : List Bool) → marks ≡ replicate n false → SoFar n numbers 0 marks
+start n numbers marks is = record {
+  lengths = ap length is ∙ length-replicate n false;
+  each = λ k h. ap (λ l. get_or l k false || has numbers k) is ∙ ap (λ b. b || has numbers k) (get_or-replicate n k false false h);
 }
 
 -- ---- the first that is lacking

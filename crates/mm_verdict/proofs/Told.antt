@@ -36,7 +36,8 @@ abbrev fault : Code → Place → List ℕ → List ℕ → Verdict
 fault code place file text = Faulty (record { code = code; place = place; file = file; text = text })
 
 fault_is : (f : Fault) (code : Code) (place : Place) (file text : List ℕ) → f.code ≡ code → f.place ≡ place → f.file ≡ file → f.text ≡ text → fault code place file text ≡ Faulty f
-fault_is f code place file text c p n t = cc
+fault_is f code place file text c p n t =
+    ap₂ (λ x y. fault x y file text) (sym c) (sym p) ∙ ap₂ (λ x y. fault f.code f.place x y) (sym n) (sym t)
 
 -- ---- what follows from how far a unit comes
 

@@ -1,6 +1,6 @@
 -- What becomes of a unit before anything is made of it: a fault, the first listed one, or its
 -- checked program. (Own.)
-use Rattle.std.specs.Prelude.{◌≡◌, ◌⊎◌, ℕ, List, [], get_or, Option, Some, None, IfNone, codes}
+use Rattle.std.specs.Prelude.{◌≡◌, ◌⊎◌, ℕ, true, false, List, [], get_or, Option, Some, None, IfNone, codes}
 use Rattle.mm_base.specs.Outside.{Contents, FilesSeen}
 use Rattle.mm_base.specs.declared.code.Code.{Code}
 use Rattle.mm_base.specs.declared.code.TheConstants.Code.{N0, P4, P5}
