@@ -1,4 +1,4 @@
 pub mod Bounds
 pub mod Telling
 pub mod Laws
-pub mod Lines
+pub mod Numbers
