@@ -1,8 +1,6 @@
-//! The commands: from the words and the bytes of a unit to a C text.
+//! The commands: what the words ask for is done, and the answer is its status.
 #![tactic(auto)]
 
-mod link;
-mod top;
-mod words;
-
-pub use top::mm_main;
+pub mod law;
+mod message;
+mod outcome;

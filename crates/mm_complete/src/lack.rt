@@ -1,0 +1,143 @@
+// What a program lacks.
+
+ghost use Rattle.std.specs.Prelude.{◌≡◌, ℕ, ◌++◌, [], List, IfOk, length, map, string_bytes};
+ghost use Rattle.std.specs.Option.{option_copied};
+ghost use Rattle.std.specs.List.{list_any};
+ghost use Rattle.mm_classes.specs.Lists.{has};
+ghost use Rattle.mm_core.specs.declared.part.CoreParam.{CoreParam};
+ghost use Rattle.mm_core.specs.Heads.{types_of_params};
+ghost use Rattle.mm_core.specs.View.{function_view};
+
+ghost use Rattle.mm_complete.specs.Complete.{is_lacking, lacking_from, lacking, lack_of, lack_in, type_text, comma_and, with_commas};
+ghost use Rattle.mm_complete.specs.Marks.{MarksOne, AreMarks, found_as};
+
+use crate::callees::add_called;
+use mm_base::place::Place;
+use mm_base::text::Text;
+use mm_classes::class::Ty;
+use mm_core::part::CoreParam;
+use mm_core::tree::CoreFn;
+use sqlite_items::Items;
+use std::alloc::{AllocError, Global};
+
+/// A function that is not defined: where it is declared first, and its name and the types of its
+/// parameters, as `f(int,bool)`.
+#[derive(Drop)]
+pub struct Lack {
+    pub place: Place,
+    pub signature: Text,
+}
+
+// Marks a number, where it is below the count of marks.
+fn mark_one(marks: &mut Vec<bool>, number: usize)
+    ensures lengths { length marks.new.items ≡ length marks.old.items }
+    ensures each { MarksOne marks.old.items number marks.new.items }
+{
+    if number < marks.len() {
+        marks[number] = true;
+    }
+}
+
+// Marks these numbers, as far as they are below the count.
+fn mark(alloc: Global, numbers: &[u32], count: usize) -> Result<Vec<bool>, AllocError>
+    ensures { IfOk result (λ marks. AreMarks marks.items count numbers.now) }
+{
+    let mut marks = vec![in alloc; false; count]?;
+    for number in numbers {
+        mark_one(&mut marks, *number as usize);
+    }
+    Ok(marks)
+}
+
+// Whether a parameter is virtual.
+fn opens(params: &[CoreParam]) -> bool
+    ensures { result ≡ list_any (λ (q : CoreParam). q.is_virtual) params.now }
+{
+    params.iter().any(|param| param.is_virtual)
+}
+
+// Whether a function is lacking, by whether it is called.
+fn lacks(function: &CoreFn, called: bool) -> bool
+    ensures { (ns : List ℕ) (n : ℕ) → called ≡ has ns n → result ≡ is_lacking ns n (function_view function.now) }
+{
+    !function.defined && (opens(function.params.as_slice()) || called)
+}
+
+// The first function that is lacking, by the marks of those that are called.
+fn first_lacking<'a>(functions: &'a [CoreFn], marks: &[bool]) -> Option<&'a CoreFn>
+    requires { length marks.now ≡ length functions.now }
+    ensures { (ns : List ℕ) → AreMarks marks.now (length functions.now) ns →
+        found_as (option_copied result) ≡ lacking_from ns 0 (map function_view functions.now) }
+{
+    let mut number = 0;
+    for function in functions {
+        if lacks(function, marks[number]) {
+            return Some(function);
+        }
+        number += 1;
+    }
+    None
+}
+
+fn type_text(ty: Ty) -> &'static str
+    ensures { result.now ≡ type_text [] ty }
+{
+    match ty {
+        Ty::Void => "void",
+        Ty::Bool => "bool",
+        Ty::Int => "int",
+        Ty::Unsigned => "unsigned",
+        Ty::Ptr(_) => "*",
+        Ty::Ref(_) => "&",
+    }
+}
+
+// Adds the types of parameters behind a first one.
+fn add_types(text: &mut String, params: &[CoreParam]) -> Result<(), AllocError>
+    ensures { IfOk result (λ _. string_bytes text.new ≡ string_bytes text.old ++ comma_and (map (type_text []) (types_of_params params.now))) }
+{
+    for param in params {
+        text.push_str(",")?;
+        text.push_str(type_text(param.ty))?;
+    }
+    Ok(())
+}
+
+// Adds the types of parameters, with commas.
+fn add_params(text: &mut String, params: &[CoreParam]) -> Result<(), AllocError>
+    ensures { IfOk result (λ _. string_bytes text.new ≡ string_bytes text.old ++ with_commas (map (type_text []) (types_of_params params.now))) }
+{
+    match params {
+        [] => Ok(()),
+        [first, more @ ..] => {
+            text.push_str(type_text(first.ty))?;
+            add_types(text, more)
+        }
+    }
+}
+
+fn lack_of(alloc: Global, function: &CoreFn) -> Result<Lack, AllocError>
+    ensures { IfOk result (λ l. l ≡ lack_of (function_view function.now)) }
+{
+    let mut text = String::from_str(alloc, function.name.as_str())?;
+    text.push_str("(")?;
+    add_params(&mut text, function.params.as_slice())?;
+    text.push_str(")")?;
+    Ok(Lack {
+        place: function.place,
+        signature: Text::from_string(text),
+    })
+}
+
+/// The first function that these call, or that is an open-method, and that is not defined.
+pub fn lacking(alloc: Global, functions: &[CoreFn]) -> Result<Option<Lack>, AllocError>
+    ensures { IfOk result (λ l. l ≡ lack_in (lacking (map function_view functions.now))) }
+{
+    let mut numbers = Items::new(alloc);
+    add_called(functions, &mut numbers)?;
+    let marks = mark(alloc, numbers.as_slice(), functions.len())?;
+    match first_lacking(functions, marks.as_slice()) {
+        Some(function) => Ok(Some(lack_of(alloc, function)?)),
+        None => Ok(None),
+    }
+}
