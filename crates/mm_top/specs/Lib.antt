@@ -1,4 +1,3 @@
-pub mod Messages
-pub mod Comes
-pub mod Laws
-pub mod Steps
+pub mod Command
+pub mod Headline
+pub mod Linking

@@ -1,6 +1,8 @@
-//! The commands: what the words ask for is done, and the answer is its status.
+//! The commands: from the words and the bytes of a unit to a C text.
 #![tactic(auto)]
 
-pub mod law;
-mod message;
-mod outcome;
+mod link;
+mod top;
+mod words;
+
+pub use top::mm_main;
