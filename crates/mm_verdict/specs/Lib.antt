@@ -1,3 +1,0 @@
-pub mod Verdict
-pub mod Laws
-pub mod Refusals
