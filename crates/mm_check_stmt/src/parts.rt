@@ -110,12 +110,7 @@ pub fn check_run(alloc: Global, env: &Env, e: &Expr) -> Result<CoreStmt, CheckEn
 }
 
 /// A `break` or a `continue` stands in a loop.
-pub fn need_loop(
-    alloc: Global,
-    here: &Here,
-    place: Place,
-    word: &str,
-) -> Result<(), CheckEnd>
+pub fn need_loop(alloc: Global, here: &Here, place: Place, word: &str) -> Result<(), CheckEnd>
     ensures { Gives (λ u. u) result (judges.judge_jump here.now place word.now) }
 {
     need(alloc, here.in_loop, Code::S13, place, word)

@@ -10,8 +10,8 @@ ghost use Rattle.mm_unit_typing.specs.Judge.{judge_stmt, judge_stmts, judge_loop
 ghost use Rattle.mm_check_stmt.specs.Results.{Makes, Keeps, outside, put, steps_view};
 
 use crate::parts::{
-    check_return, check_run, check_start, check_step, check_test, is_block, need_loop, need_void, one,
-    put_nodes, turn_within, within,
+    check_return, check_run, check_start, check_step, check_test, is_block, need_loop, need_void,
+    one, put_nodes, turn_within, within,
 };
 use crate::variables::check_variables;
 use mm_base::place::Place;
@@ -45,11 +45,30 @@ pub fn check_stmt(
         StmtKind::Expr(e) => one(alloc, check_run(alloc, env, e)?),
         StmtKind::Variables(x) => check_variables(alloc, env, locals, here, x),
         StmtKind::If(e, a) => check_if(alloc, env, locals, here, s.place, e, a.get()),
-        StmtKind::Choose(e, a, b) => check_choice(alloc, env, locals, here, s.place, e, a.get(), b.get()),
+        StmtKind::Choose(e, a, b) => check_choice(
+            alloc,
+            env,
+            locals,
+            here,
+            s.place,
+            e,
+            a.get(),
+            b.get(),
+        ),
         StmtKind::While(e, a) => check_while(alloc, env, locals, here, s.place, e, a.get()),
         StmtKind::Do(a, e) => check_do(alloc, env, locals, here, s.place, a.get(), e),
         StmtKind::For(start, test, step, a) => {
-            check_for(alloc, env, locals, here, s.place, start, test, step, a.get())
+            check_for(
+                alloc,
+                env,
+                locals,
+                here,
+                s.place,
+                start,
+                test,
+                step,
+                a.get(),
+            )
         }
         StmtKind::Break => {
             need_loop(alloc, here, s.place, "break")?;

@@ -28,7 +28,6 @@ use mm_unit_typing::here::Here;
 use sqlite_items::{Boxed, Items};
 use std::alloc::{AllocError, Global};
 
-
 /// The number of the next local.
 pub fn next_local(locals: &Items<Ty>) -> Result<u32, CheckEnd>
     ensures { Gives (λ n. n) result (Ok (length locals.now)) }

@@ -58,11 +58,11 @@ pub next : (n : ℕ) (numbers : List ℕ) (i : ℕ) (marks marks' : List Bool) �
 next n numbers i marks marks' low so same one = record {
   lengths = same ∙ so.lengths;
   each = λ k h.
-    let rest = drop (i + 1) numbers in
-    let split : drop i numbers ≡ get_or numbers i 0 ∷ rest = drop_more numbers i 0 low in
-    let below : k < length marks = omega (arith, h, so.lengths) in
-    ap (λ b. b || has rest k) (one k below) ∙ or_assoc (get_or marks k false) (nat_eq (get_or numbers i 0) k) (has rest k)
-    ∙ ap (λ l. get_or marks k false || has l k) (sym split) ∙ so.each k h;
+      let rest = drop (i + 1) numbers in
+      let split : drop i numbers ≡ get_or numbers i 0 ∷ rest = drop_more numbers i 0 low in
+      let below : k < length marks = omega (arith, h, so.lengths) in
+      ap (λ b. b || has rest k) (one k below) ∙ or_assoc (get_or marks k false) (nat_eq (get_or numbers i 0) k) (has rest k)
+      ∙ ap (λ l. get_or marks k false || has l k) (sym split) ∙ so.each k h;
 }
 
 pub start : (n : ℕ) (numbers : List ℕ) (marks : List Bool) → marks ≡ replicate n false → SoFar n numbers 0 marks

@@ -7,7 +7,6 @@ ghost use Rattle.mm_classes.specs.Lists.{has};
 ghost use Rattle.mm_core.specs.declared.part.CoreParam.{CoreParam};
 ghost use Rattle.mm_core.specs.Heads.{types_of_params};
 ghost use Rattle.mm_core.specs.View.{function_view};
-
 ghost use Rattle.mm_complete.specs.Complete.{is_lacking, lacking_from, lacking, lack_of, lack_in, type_text, comma_and, with_commas};
 ghost use Rattle.mm_complete.specs.Marks.{MarksOne, AreMarks, found_as};
 

@@ -16,10 +16,10 @@ pub loop-function-preserved : goal.loop-function-preserved
 loop-function-preserved c = record {
   number = ap (λ n. n + 1) c.loop-function.invariant.number;
   same = λ ns m.
-    let i = c.loop-function.function-index in
-    let same = ap (λ n. get_or c.args.marks.now n false) c.loop-function.invariant.number ∙ m.each i c.loop-function-test.true in
-    let e = sym (c.if-lacks.ensures ns i same) in
-    others ns c.args.functions.now i c.function-item.result c.function-item.is c.loop-function-test.true e ∙ c.loop-function.invariant.same ns m;
+      let i = c.loop-function.function-index in
+      let same = ap (λ n. get_or c.args.marks.now n false) c.loop-function.invariant.number ∙ m.each i c.loop-function-test.true in
+      let e = sym (c.if-lacks.ensures ns i same) in
+      others ns c.args.functions.now i c.function-item.result c.function-item.is c.loop-function-test.true e ∙ c.loop-function.invariant.same ns m;
 }
 
 pub returns : goal.returns
