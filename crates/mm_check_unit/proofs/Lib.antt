@@ -1,7 +1,0 @@
-pub mod Blocks
-pub mod Built
-pub mod Exprs
-pub mod Marks
-pub mod Stmts
-pub mod Trees
-pub mod Valid

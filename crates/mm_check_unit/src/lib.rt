@@ -1,5 +1,4 @@
-//! From the trees of units to what is checked: today those of the first texts.
-#![tactic(auto, using(mm_core::proofs::Views::core_rules))]
+//! From the trees of units to what is checked.
+#![tactic(auto)]
 
-pub mod first;
-pub mod law;
+pub mod check;

@@ -4,6 +4,8 @@
 #[cfg(test)]
 mod adapters;
 #[cfg(test)]
+mod commands;
+#[cfg(test)]
 mod expressions;
 #[cfg(test)]
 mod front;

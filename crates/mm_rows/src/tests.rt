@@ -114,8 +114,8 @@ fn comments_are_passed_over(rt: HostRuntime) -> Result<(), Fail> {
 #[test]
 fn the_first_fault_of_a_text_is_told(rt: HostRuntime) -> Result<(), Fail> {
     let rows = [
-        ("int main() { mm_put(x); return 0; }", "one.cc:1:21: N0\n"),
-        ("int f() { return 0; }", "one.cc:1:1: N0\n"),
+        ("int main() { mm_put(x); return 0; }", "one.cc:1:21: S1 x\n"),
+        ("int f() { return 0; }", "one.cc:1:1: P5 main\n"),
         ("int main() { mm_put(x); return 0 }", "one.cc:1:34: Y1\n"),
         ("int main() { return 1 ++ 2; }", "one.cc:1:26: Y1\n"),
         ("int main() {\nreturn 1 + ; }", "one.cc:2:12: Y1\n"),

@@ -1,6 +1,4 @@
-pub mod Asked
-pub mod Mains
-pub mod LinkLaws
-pub mod Told
-pub mod AnswersLaws
-pub mod Rows
+pub mod OneDue
+pub mod Runs
+pub mod Commands
+mod Rows

@@ -1,3 +1,6 @@
-pub mod Command
-pub mod Headline
-pub mod Linking
+pub mod Messages
+pub mod Comes
+pub mod Laws
+pub mod Steps
+pub mod Runs
+pub mod Texts

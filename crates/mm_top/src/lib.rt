@@ -1,8 +1,12 @@
-//! The commands: from the words and the bytes of a unit to a C text.
+//! The commands: what the words ask for is done, and the answer is its status.
 #![tactic(auto)]
 
+pub mod law;
 mod link;
+mod message;
+mod outcome;
+mod running;
+mod text;
 mod top;
-mod words;
 
 pub use top::mm_main;

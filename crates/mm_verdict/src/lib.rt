@@ -1,0 +1,6 @@
+//! What becomes of a unit: its first fault, or its checked program.
+#![tactic(auto)]
+
+pub mod fault;
+pub mod law;
+pub mod unit;
