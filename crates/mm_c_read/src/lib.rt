@@ -1,7 +1,8 @@
 //! C texts read: the program that a text spells, or the place where it is refused.
 #![tactic(auto)]
 
-ghost use Rattle.std.specs.Prelude.{MatchResult};
+ghost use Rattle.std.specs.Prelude.{◌≤◌, length, MatchResult};
+ghost use Rattle.mm_base.specs.declared.limits.TheConstants.{MAX_C_BYTES};
 ghost use Rattle.mm_c.specs.Spelling.{SpellsProgram};
 ghost use Rattle.mm_c.specs.View.{program_view};
 ghost use Rattle.mm_c_read.specs.Refusals.{IsRefusal};
@@ -19,8 +20,11 @@ pub enum ReadEnd {
 }
 
 /// The program that a text spells.
-pub fn read(_alloc: Global, _text: &[u8]) -> Result<CProgram, ReadEnd>
-    ensures { MatchResult result (λ p. SpellsProgram _text.now (program_view p)) (IsRefusal _text.now) }
+pub fn read(alloc: Global, text: &[u8]) -> Result<CProgram, ReadEnd>
+    requires { length text.now ≤ MAX_C_BYTES }
+    ensures { MatchResult result (λ p. SpellsProgram text.now (program_view p)) (IsRefusal text.now) }
 {
+    let _alloc = alloc;
+    let _text = text;
     Err(ReadEnd::NoMemory)
 }

@@ -14,9 +14,14 @@ abbrev main : ℕ → ℕ → Program
 main a b = record {
   classes = [];
   functions = record {
-    name = codes "main"; defined = true; in_class = false; member = false;
+    name = codes "main";
+    defined = true;
+    in_class = false;
+    member = false;
     place = record { file = 0; line = 1; col = 5 };
-    result = Int; params = []; locals = [];
+    result = Int;
+    params = [];
+    locals = [];
     body = Some (block (stmt_and (run (builtin Put (expr_and (binary Add (int (pos a)) (int (pos b))) no_exprs))) (stmt_and (return (int (pos 0))) no_stmts)));
   } ∷ [];
 }

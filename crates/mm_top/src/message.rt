@@ -68,12 +68,7 @@ fn at(alloc: Global, file: &str, line: u32, column: u32) -> Result<Vec<u8>, Allo
 }
 
 // Adds a code and what the fault names, and ends the line.
-fn add_code(
-    alloc: Global,
-    text: &mut Vec<u8>,
-    code: Code,
-    names: &[u8],
-) -> Result<(), AllocError>
+fn add_code(alloc: Global, text: &mut Vec<u8>, code: Code, names: &[u8]) -> Result<(), AllocError>
     ensures { IfOk result (λ _. text.new.items ≡ text.old.items ++ (code_text code ++ (behind names.now ++ codes "\n"))) }
 {
     let number = format!(in alloc; "{}", code.number)?;
@@ -91,7 +86,12 @@ fn add_code(
 pub fn fault_message(alloc: Global, fault: &Fault) -> Result<Vec<u8>, AllocError>
     ensures { IfOk result (λ text. text.items ≡ messages.fault_message fault.now) }
 {
-    let mut text = at(alloc, fault.file.as_str(), fault.place.line, fault.place.col)?;
+    let mut text = at(
+        alloc,
+        fault.file.as_str(),
+        fault.place.line,
+        fault.place.col,
+    )?;
     add_code(alloc, &mut text, fault.code, fault.text.as_bytes())?;
     Ok(text)
 }

@@ -59,8 +59,8 @@ pub fn mm_main<F: Files, I: Source, O: Sink, E: Sink>(
 ) -> u8
     ensures answers { Answers
         (Comes (command (map string_bytes words.now))
-            (record { old = F.seen files.old; new = F.seen files.new })
-            (record { old = I.seen input.old; new = I.seen input.new }))
+        (record { old = F.seen files.old; new = F.seen files.new })
+        (record { old = I.seen input.old; new = I.seen input.new }))
         result (command (map string_bytes words.now))
         (record {
           files = record { old = F.seen files.old; new = F.seen files.new };

@@ -108,6 +108,8 @@ pub called_are_defined : (p : Program) → lacking p.functions ≡ None → Call
 called_are_defined p whole f b there is =
     let ns = called_by p.functions in
     stmt (IsDefinedAt p) b (λ n i g at.
-      let j : Has (body_callees f.body) n = subst (λ o. Has (body_callees o) n) (sym is) i in
-      let k : Has ns n = Has-flat_map (λ (x : Function). body_callees x.body) p.functions f there j in
-      defined g.defined (is_open g) (has ns n) (not_lacking ns 0 p.functions whole n g at) (inr (has-Has ns n k)))
+    let j : Has (body_callees f.body) n = subst (λ o. Has (body_callees o) n) (sym is) i in
+    let k : Has ns n = Has-flat_map (λ (x : Function). body_callees x.body) p.functions f there j in
+    let m : 0 + n ≡ n = omega arith in
+    let l : is_lacking ns n g ≡ false = subst (λ j. is_lacking ns j g ≡ false) m (not_lacking ns 0 p.functions whole n g at) in
+    defined g.defined (is_open g) (has ns n) l (inr (has-Has ns n k)))

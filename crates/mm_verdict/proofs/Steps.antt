@@ -1,7 +1,7 @@
 -- How the steps of a unit end.
-use Rattle.std.proofs.Common.{◌≡◌, ◌⊎◌, ℕ, List, [], Option, Some, None, refl, sym, ap, ◌∙◌, subst, inl, inr}
-use Rattle.std.specs.Prelude.{IfNone, MatchOption, ◌+◌, Ok, Err, codes}
-use Rattle.mm_base.specs.Outside.{Contents, FilesSeen, Rose, RoseBy}
+use Rattle.std.proofs.Common.{◌≡◌, ℕ, Bool, true, false, List, [], Option, Some, None, refl, sym, ◌∙◌, subst, inl, inr}
+use Rattle.std.specs.Prelude.{IfNone, MatchOption, codes, map, Result, Ok, Err, IfOk, MatchResult}
+use Rattle.mm_base.specs.Outside.{Contents, FilesSeen}
 use Rattle.mm_base.specs.declared.code.Code.{Code}
 use Rattle.mm_base.specs.declared.code.TheConstants.Code.{N0, P4, P5}
 use Rattle.mm_base.specs.declared.place.Place.{Place}
@@ -15,12 +15,13 @@ use Rattle.mm_syntax.specs.View.{unit_view}
 use Rattle.mm_parse_unit.specs.Units.{IsSyntaxFault}
 use Rattle.mm_parse_unit.proofs.BoundsKept.{keeps}
 use Rattle.mm_checks.specs.Checks.{at}
+use Rattle.mm_core.specs.declared.tree.CoreFn.{CoreFn}
 use Rattle.mm_core.specs.Tree.{Function}
+use Rattle.mm_core.specs.View.{function_view, program_view}
+use Rattle.mm_lower.specs.Written.{FewTemporaries}
 use Rattle.mm_core.specs.Units.{Checked}
 use Rattle.mm_simulate.specs.Simulates.{IsScalar, IsShallow}
-use Rattle.mm_unit_typing.specs.JudgeUnit.{judge_unit}
-use Rattle.mm_unit_typing.specs.Units.{UnitTypes, unit_of}
-use Rattle.mm_unit_typing.proofs.Units.{unit_reads}
+use Rattle.mm_unit_typing.specs.Units.{UnitFaults, unit_of}
 use Rattle.mm_typing_valid.proofs.Called.{typed_unit_is_scalar}
 use Rattle.mm_typing_bounds.specs.Bounded.{NeedsFew}
 use Rattle.mm_typing_bounds.proofs.Units.{typed_unit_is_shallow}
@@ -63,12 +64,9 @@ module _ (r : Refusal) (name : List ℕ) (tokens : Tokens) where
   pub unbuilt : (tree : UnitTree) (place : Place) → first_of unbuilt_forms (shown_unit tree).marks ≡ Some place → IsFaultOr r (record { code = N0; place = place; file = file_of tokens.files place; text = [] }) → RefusesTree r name tokens tree
   unbuilt tree place f is = λ t files reads. by_fault r _ files name is (inr (inr (inl (tokens, tree, record { reads = reads; is_tree = t }, f, refl, refl, refl))))
 
-  pub ill_typed : (tree : UnitTree) (code : Code) (place : Place) (text : List ℕ) → judge_unit (unit_view tree) ≡ Err (at code place text) → IsFaultOr r (record { code = code; place = place; file = file_of tokens.files place; text = text }) → RefusesBuilt r name tokens tree
-  ill_typed tree code place text e is = λ b t files reads.
-      by_fault r _ files name is (inr (inr (inr (inl (tokens, tree, record { read = record { reads = reads; is_tree = t }; built = b }, (unit_reads (unit_view tree)).is_fault (at code place text) e, refl)))))
-
-pub is_typed : (tree : UnitTree) (unit : Checked) → judge_unit (unit_view tree) ≡ Ok unit → UnitTypes (unit_view tree) unit
-is_typed tree unit e = (unit_reads (unit_view tree)).is_typed unit e
+  pub ill_typed : (tree : UnitTree) (code : Code) (place : Place) (text : List ℕ) → UnitFaults (unit_view tree) (at code place text) → IsFaultOr r (record { code = code; place = place; file = file_of tokens.files place; text = text }) → RefusesBuilt r name tokens tree
+  ill_typed tree code place text f is = λ b t files reads.
+      by_fault r _ files name is (inr (inr (inr (inl (tokens, tree, record { read = record { reads = reads; is_tree = t }; built = b }, f, refl)))))
 
 -- the unit of a name is typed as this
 typed_of : (tokens : Tokens) (tree : UnitTree) (unit : Checked) → IsUnitOf tokens tree unit → (held : Option Contents) (name : List ℕ) → Reads held name tokens → IsTyped held name tree unit
@@ -86,6 +84,9 @@ some_lacks lack e = let x : ⊥ = cc in x
 
 is_lack_of : (lack : Lack) (g : Function) → Some lack ≡ lack_in (Some g) → lack ≡ lack_of g
 is_lack_of lack g e = cc
+
+pub not_both_ways : (b : Bool) → b ≡ false → b ≡ true → ⊥
+not_both_ways b f t = let e : false ≡ true = sym f ∙ t in cc
 
 pub lacks_none : (fs : List Function) → None ≡ lack_in (lacking fs) → lacking fs ≡ None
 lacks_none fs e = none_lacks (lacking fs) e
@@ -107,8 +108,8 @@ module _ (r : Refusal) (name : List ℕ) (tree : UnitTree) (fs : List Function) 
   undefined lack e is = lacks lack (lacking fs) refl e is
 
   pub mainless : None ≡ lack_in (lacking fs) → (HasMain fs → ⊥) → IsFaultOr r (record { code = P5; place = unit_start; file = name; text = codes "main" }) → RefusesUnit r name unit
-  mainless e no is = λ tokens t u files reads.
-      by_fault r _ files name is (inr (inr (inr (inr (inr (t, unit, typed_of tokens t unit u files.old.held name reads, lacks_none fs e, no, refl, refl, refl, refl))))))
+  mainless e without is = λ tokens t u files reads.
+      by_fault r _ files name is (inr (inr (inr (inr (inr (t, unit, typed_of tokens t unit u files.old.held name reads, lacks_none fs e, without, refl, refl, refl, refl))))))
 
 -- ---- programs that lack nothing
 
@@ -126,3 +127,25 @@ module _ (tokens : Tokens) (fs : List Function) (h : HasProgram tokens fs) where
 
   pub is_small : IsShallow (record { classes = []; functions = fs }) × NeedsFew (record { classes = []; functions = fs })
   is_small = typed_unit_is_shallow h.tree whole (keeps tokens h.tree h.unit.is_tree) h.unit.typed
+
+-- ---- the answer, by what is found in the tokens
+
+module _ (tokens : Tokens) (name : List ℕ) where
+  abbrev Found : Result (List CoreFn) Refusal → Type 0
+  Found o = MatchResult o (λ fs. HasProgram tokens (map function_view fs)) (λ r. RefusesTokens r name tokens)
+
+  pub content : (files : Change FilesSeen) (o : Result (List CoreFn) Refusal) → Reads files.old.held name tokens → Found o → MatchResult o (λ fs. IsSound files.old.held name (program_view [] fs)) (λ r. Refuses r files name)
+  content files (Ok fs) reads h = is_sound tokens (map function_view fs) h files.old.held name reads
+  content files (Err r) reads h = h files reads
+
+  pub scalar : (o : Result (List CoreFn) Refusal) → Found o → IfOk o (λ fs. IsScalar (program_view [] fs))
+  scalar (Ok fs) h = is_scalar tokens (map function_view fs) h
+  scalar (Err r) h = tt
+
+  pub shallow : (o : Result (List CoreFn) Refusal) → Found o → IfOk o (λ fs. IsShallow (program_view [] fs))
+  shallow (Ok fs) h = (is_small tokens (map function_view fs) h).0
+  shallow (Err r) h = tt
+
+  pub few : (o : Result (List CoreFn) Refusal) → Found o → IfOk o (λ fs. FewTemporaries (program_view [] fs))
+  few (Ok fs) h = (is_small tokens (map function_view fs) h).1
+  few (Err r) h = tt

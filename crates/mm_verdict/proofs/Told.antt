@@ -1,5 +1,5 @@
 -- What files that tell what they hold say of a unit: one verdict.
-use Rattle.std.proofs.Common.{◌≡◌, ◌⊎◌, ℕ, ◌<◌, Bool, true, false, List, [], length, Option, Some, None, refl, sym, ap, ap₂, ◌∙◌, subst, inl, inr}
+use Rattle.std.proofs.Common.{◌≡◌, ℕ, Bool, true, false, List, [], length, Option, Some, None, refl, sym, ap, ap₂, ◌∙◌, subst, inl, inr}
 use Rattle.std.specs.Prelude.{codes, nat_lt, Result, Ok, Err}
 use Rattle.std.proofs.lemmas.Bool.{lt-ltb, ltb-true, false_from_ne_true}
 use Rattle.mm_base.specs.Outside.{Contents}
@@ -25,9 +25,8 @@ use Rattle.mm_core.specs.Tree.{Function, Program}
 use Rattle.mm_core.specs.Run.{number_of_main}
 use Rattle.mm_core.specs.Units.{Checked}
 use Rattle.mm_unit_typing.specs.JudgeUnit.{judge_unit}
-use Rattle.mm_unit_typing.specs.Units.{UnitTypes, UnitFaults}
 use Rattle.mm_unit_typing.proofs.Units.{unit_reads}
-use Rattle.mm_complete.specs.Complete.{lacking, HasMain, signature}
+use Rattle.mm_complete.specs.Complete.{lacking, signature}
 use Rattle.mm_verdict.specs.Verdict.{Verdict, Missing, Unread, Long, Faulty, Sound, IsRead, IsBuilt, IsTyped, IsSound, IsFaulty, HasVerdict, file_of, unbuilt_forms}
 use Rattle.mm_verdict.specs.declared.fault.Fault.{Fault}
 use Rattle.mm_verdict.specs.Laws.{IsByContents, OneVerdict}
@@ -133,9 +132,10 @@ module _ (h : Contents) (name : List ℕ) where
 
   sound_tells : (p : Program) → IsSound (Some h) name p → Tells (Sound p)
   sound_tells p s =
-      let fs = s.unit.program.functions in
-      (treed s.typed.tokens s.tree s.typed.built.read,
-      complete_tells s.tree s.unit s.typed s.complete.called true (lt-ltb (number_of_main fs) (length fs) s.complete.main) ∙ ap Sound (sym s.program))
+      let fs = s.unit.program.functions in (
+        treed s.typed.tokens s.tree s.typed.built.read,
+        complete_tells s.tree s.unit s.typed s.complete.called true (lt-ltb (number_of_main fs) (length fs) s.complete.main) ∙ ap Sound (sym s.program),
+      )
 
   fault_tells : (f : Fault) → IsFaulty (Some h) name f → Tells (Faulty f)
   fault_tells f (inl (r, n)) = (refused (token_end.Fault f.code f.place f.file) tt r, fault_is f f.code f.place f.file [] refl refl refl n)

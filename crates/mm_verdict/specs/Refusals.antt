@@ -1,5 +1,5 @@
 -- What the steps of `sound_unit` leave for the next.
-use Rattle.std.specs.Prelude.{◌≡◌, ◌⊎◌, ℕ, List, Option, Some, None}
+use Rattle.std.specs.Prelude.{◌≡◌, ◌⊎◌, ℕ, List, None}
 use Rattle.mm_base.specs.Outside.{FilesSeen}
 use Rattle.mm_token.specs.declared.token.Tokens.{Tokens}
 use Rattle.mm_token.specs.Tokens.{Reads}

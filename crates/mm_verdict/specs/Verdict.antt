@@ -2,7 +2,6 @@
 -- checked program. (Own.)
 use Rattle.std.specs.Prelude.{◌≡◌, ◌⊎◌, ℕ, true, false, List, [], get_or, Option, Some, None, IfNone, codes}
 use Rattle.mm_base.specs.Outside.{Contents, FilesSeen}
-use Rattle.mm_base.specs.declared.code.Code.{Code}
 use Rattle.mm_base.specs.declared.code.TheConstants.Code.{N0, P4, P5}
 use Rattle.mm_base.specs.declared.limits.TheConstants.{MAX_UNIT_BYTES}
 use Rattle.mm_base.specs.declared.place.Place.{Place}
