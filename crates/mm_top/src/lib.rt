@@ -8,5 +8,6 @@ mod outcome;
 mod running;
 mod text;
 mod top;
+mod unit;
 
 pub use top::mm_main;

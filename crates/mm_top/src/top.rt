@@ -9,8 +9,8 @@ ghost use Rattle.mm_top.specs.Steps.{ComesTo};
 
 use crate::link::link;
 use crate::outcome::refusal;
-use crate::running::run;
 use crate::text::exec;
+use crate::unit::run;
 use mm_base::code::NoMemory;
 use mm_base::outside::{Files, Sink, Source};
 use mm_command::words::{Command, read_words};
