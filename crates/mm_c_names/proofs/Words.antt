@@ -7,7 +7,7 @@ use Rattle.mm_grammar.specs.Grammar.{has}
 use Rattle.mm_c.specs.Tokens.{is_run, are_digits, digits_in, is_number, number_in, classes, class_in, class_of_other, names}
 use Rattle.mm_c.specs.WellFormed.{is_name, list_every}
 use Rattle.mm_c.proofs.Bools.{and_left, and_right}
-use Rattle.mm_c_rules.specs.Words.{is_type_word, is_item_word, is_stmt_word}
+use Rattle.mm_c_names.specs.Words.{is_type_word, is_item_word, is_stmt_word}
 
 abbrev pub is_reserved : List ℕ → Bool
 is_reserved x = is_type_word x || is_item_word x || is_stmt_word x

@@ -1,11 +1,11 @@
-// Names, kinds and numbers.
+//! Names, kinds and numbers.
 
 ghost use Rattle.std.specs.Prelude.{◌≡◌};
 ghost use Rattle.std.specs.List.{list_all};
 ghost use Rattle.mm_c.specs.View.{item_view};
 ghost use Rattle.mm_c.specs.Tokens.{is_word_byte, is_run, is_number};
 ghost use Rattle.mm_c.specs.WellFormed.{kind_number, result_number, is_name, is_inline, item_name};
-ghost use Rattle.mm_c_rules.specs.Words.{is_type_word, is_item_word, is_stmt_word};
+ghost use Rattle.mm_c_names.specs.Words.{is_type_word, is_item_word, is_stmt_word};
 
 use mm_c::tree::{CItem, CKind, CLinkage, CNumber};
 
@@ -102,14 +102,14 @@ pub fn is_name(text: &[u8]) -> bool
 }
 
 /// The name that an item declares.
-pub fn item_name(item: &CItem) -> &[u8]
+pub fn item_name(item: &CItem) -> &str
     ensures { result.now ≡ item_name (item_view item.now) }
 {
     match item {
-        CItem::Typedef(typedef) => typedef.name.as_bytes(),
-        CItem::Array(array) => array.name.as_bytes(),
-        CItem::Proto(proto) => proto.name.as_bytes(),
-        CItem::Function(function) => function.name.as_bytes(),
+        CItem::Typedef(typedef) => typedef.name.as_str(),
+        CItem::Array(array) => array.name.as_str(),
+        CItem::Proto(proto) => proto.name.as_str(),
+        CItem::Function(function) => function.name.as_str(),
     }
 }
 
