@@ -1,4 +1,4 @@
--- The words of the grammar, which are no names. (ISO/IEC 14882, 2.11, of which these are a part; own.)
+-- The words of the grammar, which are no names. (ISO/IEC 14882, 2.11, in part; own.)
 use Rattle.std.specs.Prelude.{ℕ, Bool, ◌||◌, List, codes}
 use Rattle.std.specs.Str.{bytes_eq}
 

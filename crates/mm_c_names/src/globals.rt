@@ -24,7 +24,8 @@ pub enum Defined<'a> {
 /// For each name of an item, the functions of that name.
 type Definitions<'a> = IndexMap<&'a str, Defined<'a>>;
 
-/// The items of a program, with their names. To a contract they are their list. A look-up takes about constant time.
+/// The items of a program, with their names. To a contract they are their list. A look-up takes
+/// about constant time.
 #[derive(Drop)]
 pub struct Globals<'a> {
     items: &'a [CItem],

@@ -93,7 +93,8 @@ fn is_stmt_word(text: &[u8]) -> bool
         || text == b"return".as_slice()
 }
 
-/// Whether a text is a name: a run of letters, digits and `_` that begins with no digit, and no word of the grammar.
+/// Whether a text is a name: a run of letters, digits and `_` that begins with no digit, and no word
+/// of the grammar.
 #[tactic(auto, using(crate::proofs::Words::is_name_run))]
 pub fn is_name(text: &[u8]) -> bool
     ensures { result ≡ is_name text.now }

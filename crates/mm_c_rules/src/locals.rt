@@ -1,4 +1,4 @@
-// The parameters and locals of a function: names of their own, each once, and no names of the program.
+// The parameters and locals of a function: names, each once, and no names of the program.
 
 ghost use Rattle.std.specs.Prelude.{◌≡◌, ◌++◌, ◌&&◌, not, OnOk, IfOk};
 ghost use Rattle.mm_c.specs.View.{stmt_view, block_view, code_view};
@@ -105,7 +105,8 @@ fn are_own(alloc: Global, names: &Globals<'_>, locals: &[&CLocal]) -> Result<boo
     Ok(true)
 }
 
-/// Whether the parameters and locals of a function are names, differ from each other, and from the names of the program.
+/// Whether the parameters and locals of a function are names, differ from each other, and from the
+/// names of the program.
 pub fn locals_fit(alloc: Global, names: &Globals<'_>, function: &CFn) -> Result<bool, AllocError>
     ensures { IfOk result (λ b. b ≡ locals_fit (globals_in names.now) (all_locals function.now)) }
 {
