@@ -81,8 +81,8 @@ fn check_definition(
     Ok(())
 }
 
-/// A function of the unit, behind those that are declared before it: it is put behind them, or at its place among them. The
-/// environment sees it from here on.
+/// A function of the unit, behind those that are declared before it: it is put behind them, or
+/// defined at its place among them. The environment sees it from here on.
 #[tactic(auto, unfolding(mm_unit_typing::specs::JudgeUnit::judge_function))]
 pub fn check_function(
     alloc: Global,

@@ -175,7 +175,8 @@ fn push_function(
     Ok(number as usize)
 }
 
-/// The place of the function that a head declares. It is put behind the others where none is declared so.
+/// The place of the function that a head declares. It is put behind the others where none is
+/// declared so.
 pub fn declare(
     alloc: Global,
     env: &mut Env,

@@ -1,4 +1,5 @@
-//! The check of a unit: its declarations in order, each behind the functions that are declared before it.
+//! The check of a unit: its declarations in order, each behind the functions that are declared
+//! before it.
 
 ghost use Rattle.std.specs.Prelude.{◌≡◌, map, OnOk};
 ghost use Rattle.mm_core.specs.View.{function_view};

@@ -1,5 +1,5 @@
 -- Which trees are written, and what is written of functions and programs. (Own.)
-use Rattle.std.specs.Prelude.{◌≡◌, ◌<◌, ◌^◌, ℕ, nat_eq, true, false, List, [], ◌++◌, length, map, Some, slice_get, if◌then◌else◌}
+use Rattle.std.specs.Prelude.{◌≡◌, ◌<◌, ◌^◌, ℕ, nat_eq, true, false, IsTrue, List, [], ◌++◌, length, map, Some, slice_get, if◌then◌else◌}
 use Rattle.mm_core.specs.Tree.{Stmt, Function, Program}
 use Rattle.mm_core.specs.Heads.{is_main, argument_types}
 use Rattle.mm_core.specs.Run.{number_of_main}
@@ -9,7 +9,7 @@ use Rattle.mm_c.specs.declared.tree.CLinkage.TheVariants.{Public, Static}
 use Rattle.mm_c.specs.Tree as c
 use Rattle.mm_c.specs.Tree.{Code, ◌⨾◌}
 use Rattle.mm_simulate.specs.Lowered.{Defined, with_body, entry, others, is_defined, name_of, kind_of_result, locals_from, ending, reach_stmt, lowered_stmt, lowered_program, IsLoweredStmt}
-use Rattle.mm_simulate.specs.Simulates.{DeclareTheirs}
+use Rattle.mm_simulate.specs.Simulates.{IsScalar, DeclareTheirs, Named, KeepsAt}
 use Rattle.mm_lower_trees.specs.Scopes.{no_layout}
 use Rattle.mm_lower.specs.Needed.{needed}
 
@@ -74,3 +74,12 @@ written p = record {
   items = map (head_of p) (others p) ++ (map (item_of p) (entry p) ++
       map (item_of p) (others p));
 }
+
+-- In any C program whose functions stand for those of the program, this one does at a clock what the
+-- function does, if all of them do so at every clock below it.
+abbrev pub KeepsAtAll : Program → Defined → c.Function → Type 0
+KeepsAtAll p d F = (q : c.Program) (named : Named p is_defined (name_of p) q) (n : ℕ) → IsScalar p →
+    slice_get p.functions d.number ≡ Some d.function → d.function.body ≡ Some d.body →
+    ((k j : ℕ) (h : Function) → k < n → slice_get p.functions j ≡ Some h → IsTrue h.defined →
+    KeepsAt p no_layout q k j h (named.function j)) →
+    KeepsAt p no_layout q n d.number d.function F

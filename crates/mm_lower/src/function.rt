@@ -12,7 +12,7 @@ ghost use Rattle.mm_simulate.specs.Lowered as lowered;
 ghost use Rattle.mm_lower_trees.specs.Scopes.{around_of, no_layout, program_of};
 ghost use Rattle.mm_lower.specs.Needed.{needed};
 ghost use Rattle.mm_lower.specs.Written as written;
-ghost use Rattle.mm_lower.specs.Written.{IsWritable};
+ghost use Rattle.mm_lower.specs.Written.{IsWritable, KeepsAtAll};
 
 use crate::head::{argument_types, is_main, kind_of_result, local_types, locals_from, variables};
 use crate::temporary::note_code;
@@ -106,7 +106,8 @@ fn lower_block(
     Ok(block)
 }
 
-/// The function of this number, by its body.
+/// The function of this number, by its body. In any C program that holds it, and whose functions stand
+/// for those of the program, it does what the function does.
 pub fn lower_fn(
     alloc: Global,
     functions: &[CoreFn],
@@ -117,7 +118,8 @@ pub fn lower_fn(
 ) -> Result<CFn, AllocError>
     requires main { main ≡ run.number_of_main (map view.function_view functions.now) }
     requires writable { IsWritable (program_of functions.now) (view.function_view function.now) (stmt_view body.now) }
-    ensures { IfOk result (λ f. function_view f ≡ written.function_of (program_of functions.now) (record { number = number; function = view.function_view function.now; body = stmt_view body.now })) }
+    ensures lowered { IfOk result (λ f. function_view f ≡ written.function_of (program_of functions.now) (record { number = number; function = view.function_view function.now; body = stmt_view body.now })) }
+    ensures keeps { IfOk result (λ f. KeepsAtAll (program_of functions.now) (record { number = number; function = view.function_view function.now; body = stmt_view body.now }) (function_view f)) }
 {
     let types = argument_types(alloc, function)?;
     let params = locals_from(alloc, types.as_slice(), 0)?;

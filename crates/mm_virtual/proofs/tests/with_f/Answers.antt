@@ -1,4 +1,4 @@
-use Rattle.std.proofs.Common.{◌≡◌, ℕ, [], ◌∷◌, refl, sym, subst}
+use Rattle.std.proofs.Common.{◌≡◌, ℕ, [], ◌∷◌, ap, refl, sym, subst}
 use Rattle.std.specs.Prelude.{true}
 use Rattle.mm_classes.specs.declared.class.Member.{Member}
 use Rattle.mm_classes.specs.declared.class.MemberKind.TheVariants as kind
@@ -17,4 +17,4 @@ one_function x k n m t (first e) h = int_only n t (subst (λ z. Has (types_in z)
 one_function x k n m t (later h) j = elim h [ ]
 
 pub add-requires-clause-typed : goal.add-requires-clause-typed
-add-requires-clause-typed c = one_function _ refl
+add-requires-clause-typed c = one_function _ (ap (λ ps. kind.Function ps ty.Int true) c.new.ensures)
