@@ -23,10 +23,14 @@ use Rattle.mm_verdict.specs.Refusals.{Refuses}
 use Rattle.mm_verdict.specs.Verdict.{Missing, Unread, Long, Faulty, Sound, IsSound}
 use Rattle.mm_base.specs.Input.{TakesSome}
 use Rattle.mm_top.specs.Comes.{Comes, refused, NoText, UnreadText, LongText, BadText, GoodText, HasText, RunsText}
-use Rattle.mm_top.specs.Messages.{no_file, read_failed, too_long}
+use Rattle.mm_top.specs.Messages.{no_file, read_failed, too_long, bad_text}
 use Rattle.mm_top.specs.Runs.{RunsTo}
 use Rattle.mm_top.specs.Steps.{ComesTo, IsRefusal}
-use Rattle.mm_top.specs.Texts.{IsReadAs, RunsBytes}
+use Rattle.mm_c_text.specs.Places.{at}
+use Rattle.mm_c_read.specs.declared.ReadEnd.{ReadEnd}
+use Rattle.mm_c_read.specs.declared.ReadEnd.TheVariants as read_end
+use Rattle.mm_c_read.specs.Refusals as read
+use Rattle.mm_top.specs.Texts.{IsReadAs, RefusesText, RunsBytes}
 use Rattle.mm_top.proofs.Runs.{takes_nothing}
 use Rattle.mm_top.proofs.OneDue.{one_due_only, other_status_only}
 
@@ -82,6 +86,11 @@ module _ (files : Change FilesSeen) (i : Change SourceSeen) (name : List ℕ) (x
     whole_text text f (NoText, r, d, e, o) = absurd r
     whole_text text f (UnreadText, r, d, e, o) = absurd r
     whole_text text f (LongText, r, d, e, o) = absurd r
+
+-- a text that is refused
+pub refused_text : (name text : List ℕ) (n : ℕ) (i : Change SourceSeen) (x : Outcome) (e : ReadEnd) → read.IsRefusal text e → RefusesText name e x → RunsBytes name text n i x
+refused_text name text n i x (read_end.Refused p) r o = (BadText (at p), r, Refused 7 (bad_text name (at p)), refl, o)
+refused_text name text n i x read_end.NoMemory r o = absurd o
 
 -- ---- what is kept
 

@@ -1,8 +1,10 @@
 -- What runs come to.
-use Rattle.std.proofs.Common.{◌≡◌, ℕ, zero, suc, ◌+◌, ◌<◌, ◌≤◌, length, ℤ, List, [], ◌∷◌, Option, Some, None, IsTrue, map, refl, sym, ap, ap₂, ◌∙◌, subst, arith}
-use Rattle.std.specs.Prelude.{slice_index_or, IfSome, codes}
+use Rattle.std.proofs.Common.{◌≡◌, ℕ, zero, suc, ◌+◌, ◌<◌, ◌≤◌, length, ℤ, List, [], ◌∷◌, Option, Some, None, IsTrue, map, refl, sym, ap, ap₂, ◌∙◌, subst, arith, Global}
+use Rattle.std.specs.Prelude.{slice_index_or, IfSome, IfNone, codes, Result, Ok, Err}
 use Rattle.std.specs.List.{All}
-use Rattle.mm_base.specs.Input.{FrontTaken, Taken, TakenWhole, TakesSome, IsIntLine, AreNumbers, IsFirstBad, IsTooLong, lines, line_value}
+use Rattle.mm_base.specs.declared.input.InputEnd.{InputEnd}
+use Rattle.mm_base.specs.declared.input.InputEnd.TheVariants as input_end
+use Rattle.mm_base.specs.Input.{ReadsInput, FrontTaken, Taken, TakenWhole, TakesSome, IsIntLine, AreNumbers, IsFirstBad, IsTooLong, lines, line_value}
 use Rattle.mm_base.specs.Num.{is_int}
 use Rattle.mm_base.specs.Outside.{SourceSeen, Rose}
 use Rattle.mm_base.specs.World.{World, world_of}
@@ -27,7 +29,8 @@ use Rattle.mm_command.specs.Due.{Due, Ran}
 use Rattle.mm_command.specs.declared.writing.Outcome as written
 use Rattle.mm_command.specs.Writing.{IsOutcome}
 use Rattle.mm_top.specs.Comes.{Numbers, BadLine, LongInput, UnreadInput, ran, Runs}
-use Rattle.mm_top.specs.Runs.{outcome_with, RunsTo}
+use Rattle.mm_top.specs.Runs.{outcome_with, RefusesInput, RunsTo}
+use Rattle.mm_top.proofs.Known.{if_none}
 
 -- ---- the input
 
@@ -43,6 +46,7 @@ takes_nothing i = record {
 }
 
 each_has : {A : Type 0} (P : A → Type 0) (xs : List A) (x : A) → All P xs → Has xs x → P x
+each_has P [] x h k = elim k [ ]
 each_has P (y ∷ ys) x h (first e) = subst P e (h 0 y (omega arith))
 each_has P (y ∷ ys) x h (later k) = each_has P ys x (λ i d lt. h (suc i) d (omega (arith, lt))) k
 
@@ -76,6 +80,16 @@ module _ (run : List ℤ → Outcome) (i : Change SourceSeen) (x : written.Outco
 
   pub on_failure : Rose i.old.faults i.new.faults → IsOutcome (ran run UnreadInput) x → RunsTo run i x
   on_failure f o = (ran run UnreadInput, (UnreadInput, tt, f, refl), o)
+
+  pub on_too_long : IsTooLong i.old i.new → IsOutcome (ran run LongInput) x → RunsTo run i x
+  on_too_long t o = (ran run LongInput, (LongInput, t.longer, if_none i.old.left _ t.drawn, refl), o)
+
+  -- by the end of the input
+  pub refused_input : (e : InputEnd) → ReadsInput {A = Global} (Err e) i.old i.new → RefusesInput e x → RunsTo run i x
+  refused_input (input_end.BadLine n) (bytes, t, h) o = on_bad_line bytes n t h (o run)
+  refused_input input_end.TooLong t o = on_too_long t (o run)
+  refused_input input_end.Failed f o = on_failure f (o run)
+  refused_input input_end.NoMemory u o = absurd o
 
 -- the C program of a program runs as it does
 pub runs_as : (p : source.Program) (q : c.Program) (n : ℕ) (i : Change SourceSeen) (x : written.Outcome) → Translates p q → RunsTo (λ ns. c_run q ns n) i x → RunsTo (λ ns. outcome_in_c (source_run p ns n)) i x

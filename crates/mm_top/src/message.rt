@@ -36,11 +36,9 @@ pub fn read_failed(alloc: Global, name: &str) -> Result<Vec<u8>, AllocError>
 pub fn too_long(alloc: Global, name: &str, most: u64) -> Result<Vec<u8>, AllocError>
     ensures { IfOk result (λ text. text.items ≡ messages.too_long name.now most) }
 {
-    let most = format!(in alloc; "{}", most)?;
+    let rest = format!(in alloc; ": longer than {} bytes\n", most)?;
     let mut text = Vec::from_slice(alloc, name.as_bytes())?;
-    text.extend_from_slice(b": longer than ")?;
-    text.extend_from_slice(most.as_bytes())?;
-    text.extend_from_slice(b" bytes\n")?;
+    text.extend_from_slice(rest.as_bytes())?;
     Ok(text)
 }
 

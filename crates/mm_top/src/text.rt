@@ -7,7 +7,7 @@ ghost use Rattle.mm_token.specs.Causes.{AreKept};
 ghost use Rattle.mm_command.specs.declared.words.Command.TheVariants.{Exec};
 ghost use Rattle.mm_top.specs.Messages as messages;
 ghost use Rattle.mm_top.specs.Steps.{ComesTo};
-ghost use Rattle.mm_top.specs.Texts.{RunsBytes};
+ghost use Rattle.mm_top.specs.Texts.{RefusesText, RunsBytes};
 
 use crate::message::{bad_text, no_file, read_failed, too_long};
 use crate::outcome::refusal;
@@ -18,6 +18,19 @@ use mm_base::outside::{FileEnd, Files, Source};
 use mm_c_read::{ReadEnd, read};
 use mm_command::writing::Outcome;
 use std::alloc::Global;
+
+// The outcome of a text that gives no program.
+fn refuse_text(alloc: Global, name: &str, end: ReadEnd) -> Result<Outcome, NoMemory>
+    ensures { IfOk result (λ x. RefusesText name.now end x) }
+{
+    match end {
+        ReadEnd::Refused(place) => {
+            let message = bad_text(alloc, name, place.line, place.column)?;
+            Ok(refusal(alloc, 7, message))
+        }
+        ReadEnd::NoMemory => Err(NoMemory),
+    }
+}
 
 // Runs the program that a text spells, or refuses the text.
 fn run_text<I: Source>(
@@ -35,11 +48,7 @@ fn run_text<I: Source>(
 {
     match read(alloc, text) {
         Ok(program) => run_program(alloc, &program, input, steps),
-        Err(ReadEnd::Refused(place)) => {
-            let message = bad_text(alloc, name, place.line, place.column)?;
-            Ok(refusal(alloc, 7, message))
-        }
-        Err(ReadEnd::NoMemory) => Err(NoMemory),
+        Err(end) => refuse_text(alloc, name, end),
     }
 }
 
