@@ -4,6 +4,7 @@ use mm_base::mem::{MemSink, MemSource};
 use mm_base::sure::{SureFiles, SureSink, SureSource};
 use mm_top::mm_main;
 use std::alloc::{AllocError, Global};
+use std::process::Abort;
 use std::test::Fail;
 
 /// A command over one file, and what comes of it.
@@ -340,9 +341,9 @@ const REFUSED: [Row; 16] = [
     },
 ];
 
-fn all_are(rt: &HostRuntime, rows: &[Row]) -> Result<(), Fail> {
+fn all_are(rt: &impl Abort, alloc: Global, rows: &[Row]) -> Result<(), Fail> {
     for row in rows {
-        let o = outcome(rt.alloc(), row)?;
+        let o = outcome(alloc, row)?;
         assert_eq!(rt; o.status, row.status);
         assert_eq!(rt; o.out.as_slice(), row.out.as_bytes());
         assert_eq!(rt; o.err.as_slice(), row.err.as_bytes());
@@ -412,8 +413,8 @@ fn first_faults_are_told(rt: HostRuntime) -> Result<(), Fail> {
 
 #[test]
 fn refusals_have_their_statuses(rt: HostRuntime) -> Result<(), Fail> {
-    all_are(&rt, &REFUSED)?;
-    all_are(&rt, &TEXTS)
+    all_are(&rt, rt.alloc(), &REFUSED)?;
+    all_are(&rt, rt.alloc(), &TEXTS)
 }
 
 #[test]
