@@ -1,0 +1,4 @@
+pub mod Gathers
+mod Locals
+mod Firsts
+mod Returns

@@ -1,9 +1,13 @@
 // Where items and statements begin, in the order of the text.
 
-ghost use Rattle.std.specs.Prelude.{◌≡◌, [], ◌∷◌, ◌++◌, OnOk, slice_get};
+ghost use Rattle.std.specs.Prelude.{◌≡◌, [], ◌∷◌, ◌++◌, IfOk, OnOk, slice_get};
 ghost use Rattle.std.specs.Option.{option_map};
+ghost use Rattle.mm_c_text.specs.Classes.{number_of};
 ghost use Rattle.mm_c_text.specs.Places.{at};
+ghost use Rattle.mm_c_parse_stmt.specs.Gathers.{Begins};
 
+use mm_c_text::class::Class;
+use mm_c_text::cursor::Cursor;
 use mm_c_text::place::Place;
 use sqlite_items::Items;
 use std::alloc::{AllocError, Global};
@@ -48,5 +52,19 @@ impl Places {
         ensures { option_map at result ≡ slice_get self.now number }
     {
         self.list.get(number).copied()
+    }
+}
+
+/// Passes over the next token where it is of this class, and adds its place.
+#[inline(never)]
+pub fn begin(cursor: &mut Cursor<'_>, places: &mut Places, class: Class) -> Result<bool, AllocError>
+    ensures { IfOk result (λ b. Begins (number_of class) cursor.old places.old b places.new cursor.new) }
+{
+    match cursor.eat(&[class]) {
+        None => Ok(false),
+        Some(word) => {
+            places.push(word.place)?;
+            Ok(true)
+        }
     }
 }
