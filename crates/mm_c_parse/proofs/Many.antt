@@ -1,5 +1,5 @@
 -- A part any number of times, as a loop reads it while a token stands that the part begins with.
-use Rattle.std.specs.Prelude.{false, not}
+use Rattle.std.specs.Prelude.{not}
 use Rattle.std.proofs.Common.{◌≡◌, ℕ, ◌<◌, ◌+◌, IsTrue, List, [], ◌∷◌, ◌++◌, length, refl, ap, sym, ◌∙◌, subst, arith, append_assoc}
 use Rattle.std.proofs.lemmas.List.{append-nil, length-append}
 use Rattle.mm_grammar.specs.Grammar.{many, has, Front, Begins, Avoids, Spells, Reads, Fails, RuleSpells, RuleFront}

@@ -1,14 +1,14 @@
 -- Answers whose value is seen as another, and marks behind a part.
-use Rattle.std.proofs.Common.{◌≡◌, ℕ, IsTrue, List, [], ◌∷◌, refl, ap, sym, ◌∙◌, Result, Ok, Err, inl, inr}
+use Rattle.std.proofs.Common.{◌≡◌, ℕ, IsTrue, List, [], ◌∷◌, refl, ap, sym, ◌∙◌, Result, Err, inl, inr}
 use Rattle.std.specs.Result.{IsErrAnd}
 use Rattle.std.proofs.lemmas.Result.{err_from_is_err_and}
 use Rattle.mm_grammar.specs.Grammar.{seq, Reads, Fails}
 use Rattle.mm_c.specs.Tokens.{Token}
-use Rattle.mm_c.specs.Grammar.{P, texts, w, ◌▸◌, ◌◂◌}
+use Rattle.mm_c.specs.Grammar.{P, texts, w, ◌◂◌}
 use Rattle.mm_c_parse.specs.declared.step.Stop.{Stop}
 use Rattle.mm_c_parse.specs.declared.step.Stop.TheVariants as stop
 use Rattle.mm_c_parse.specs.Steps.{Answers, Marks, Broken, seen}
-use Rattle.mm_c_parse.proofs.Steps.{is_plain, bad, yes_, rg, rs, fg, ff, fs, mw, mw_not}
+use Rattle.mm_c_parse.proofs.Steps.{is_plain, rg, rs, fg, ff, fs, mw, mw_not}
 use Rattle.mm_c_parse.proofs.Skips.{split, split_broken}
 
 -- where a reader answers that it is at fault

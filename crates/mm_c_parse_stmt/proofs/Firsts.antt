@@ -1,5 +1,5 @@
 -- First tokens.
-use Rattle.std.specs.Prelude.{true, not}
+use Rattle.std.specs.Prelude.{not}
 use Rattle.std.proofs.Common.{◌≡◌, ℕ, IsTrue, List, [], ◌∷◌, ap, sym, ◌∙◌, subst}
 use Rattle.mm_grammar.specs.Grammar.{has, Avoids, Reads}
 use Rattle.mm_grammar.proofs.Lists.{not_both}

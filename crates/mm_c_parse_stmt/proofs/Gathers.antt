@@ -1,14 +1,13 @@
 -- At the exits of readers of parts that have places.
-use Rattle.std.proofs.Common.{◌≡◌, ℕ, IsTrue, List, [], ◌∷◌, ◌++◌, refl, ap, sym, ◌∙◌, subst, append_assoc, Result, Ok, Err}
+use Rattle.std.proofs.Common.{◌≡◌, List, ◌++◌, refl, ap, sym, ◌∙◌, subst, append_assoc, Result, Ok, Err}
 use Rattle.std.specs.Result.{IsErrAnd}
-use Rattle.std.proofs.lemmas.List.{append-nil}
 use Rattle.std.proofs.lemmas.Result.{err_from_is_err_and}
-use Rattle.mm_grammar.specs.Grammar.{has, Reads, Fails}
-use Rattle.mm_c.specs.Tokens.{Token, Place, class_of}
+use Rattle.mm_grammar.specs.Grammar.{Reads, Fails}
+use Rattle.mm_c.specs.Tokens.{Token, Place}
 use Rattle.mm_c.specs.Grammar.{P, Placed, texts}
 use Rattle.mm_c_parse.specs.declared.step.Stop.{Stop}
 use Rattle.mm_c_parse.specs.declared.step.Stop.TheVariants as stop
-use Rattle.mm_c_parse.specs.Steps.{Answers, Marks, seen}
+use Rattle.mm_c_parse.specs.Steps.{Answers, seen}
 use Rattle.mm_c_parse.proofs.Steps.{not_both_ways, err_inside}
 use Rattle.mm_c_parse_stmt.specs.Gathers.{Gathers}
 

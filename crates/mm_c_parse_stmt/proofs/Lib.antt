@@ -2,3 +2,5 @@ pub mod Gathers
 mod Locals
 mod Firsts
 mod Returns
+mod Stmts
+mod Blocks

@@ -1,7 +1,7 @@
 -- Locals: what follows their kinds, and what they begin with.
-use Rattle.std.specs.Prelude.{Bool, true, false, ◌==◌, ◌||◌}
-use Rattle.std.proofs.Common.{◌≡◌, ℕ, IsTrue, List, [], ◌∷◌, refl, sym, subst, inl, inr}
-use Rattle.mm_grammar.specs.Grammar.{one, has, Front, Reads, Fails}
+use Rattle.std.specs.Prelude.{false, ◌==◌}
+use Rattle.std.proofs.Common.{ℕ, IsTrue, List, [], ◌∷◌, refl, inl, inr}
+use Rattle.mm_grammar.specs.Grammar.{has, Front, Reads, Fails}
 use Rattle.mm_grammar.proofs.Lists.{or_cases, or_left}
 use Rattle.mm_c.specs.declared.tree.CKind.{CKind}
 use Rattle.mm_c.specs.declared.tree.CKind.TheVariants as kind_is

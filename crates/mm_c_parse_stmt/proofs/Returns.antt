@@ -1,5 +1,5 @@
 -- What follows `return`, and the statements that jump.
-use Rattle.std.proofs.Common.{◌≡◌, ℕ, List, [], ◌∷◌, ◌++◌, refl, ap, subst}
+use Rattle.std.proofs.Common.{◌≡◌, List, [], ◌∷◌, ◌++◌, refl, ap, subst}
 use Rattle.mm_grammar.specs.Grammar.{give, opt, seq, Avoids, Reads, Fails}
 use Rattle.mm_grammar.proofs.Loops.{opt_none}
 use Rattle.mm_grammar.proofs.Here.{opt_then_fail, opt_read}
@@ -7,14 +7,13 @@ use Rattle.mm_c.specs.declared.tree.CAtom.{CAtom}
 use Rattle.mm_c.specs.Tree as t
 use Rattle.mm_c.specs.Tree.{Stmt}
 use Rattle.mm_c.specs.Tokens.{Token, names, numbers, class_of}
-use Rattle.mm_c.specs.Grammar.{P, Placed, texts, w, atom, at, returned, return_stmt, ◌◂◌, ◌∣◌}
+use Rattle.mm_c.specs.Grammar.{P, Placed, texts, w, atom, at, return_stmt, ◌◂◌, ◌∣◌}
 use Rattle.mm_c.proofs.Claims.{ahead, fit}
 use Rattle.mm_c_parse.specs.Steps.{Marks, Broken}
-use Rattle.mm_c_parse.proofs.Steps.{good, rg, fg, rs, ff, fs, mw, mw_not, tr, tf, ug, uf}
+use Rattle.mm_c_parse.proofs.Steps.{good, rg, fg, rs, fs, mw, mw_not, tr, tf, ug, uf}
 use Rattle.mm_c_parse.proofs.Seen.{rl}
 use Rattle.mm_c_parse_stmt.specs.Parts.{return_end, jump}
 use Rattle.mm_c_parse_stmt.proofs.Firsts.{is_in, first_read, away}
-
 
 pub leaves : {ts r : List Token} {s : Stmt} → s ≡ t.leave → Marks (26 ∷ []) ts r → Reads texts return_end ts s r
 leaves {ts} e m = rg (rl refl (opt_none texts ahead fit atom (good (opt atom) refl) ts (away (names ++ numbers ++ 31 ∷ 20 ∷ []) refl m)) (mw m).1) e

@@ -6,10 +6,10 @@ use Rattle.mm_c.specs.declared.tree.CAtom.{CAtom}
 use Rattle.mm_c.specs.declared.tree.CCall.{CCall}
 use Rattle.mm_c.specs.declared.tree.CCall.TheVariants as call_is
 use Rattle.mm_c.specs.declared.tree.CLocal.{CLocal}
-use Rattle.mm_c.specs.Tokens.{names, Place}
+use Rattle.mm_c.specs.Tokens.{names}
 use Rattle.mm_c.specs.Tree as t
 use Rattle.mm_c.specs.Tree.{Stmt, Block, Code}
-use Rattle.mm_c.specs.Grammar.{P, Placed, around, at, w, ident, atom, address, arguments, after_first, store_cell, returned, block, stmt, return_stmt, ◌▸◌, ◌◂◌, ◌∣◌}
+use Rattle.mm_c.specs.Grammar.{P, Placed, at, w, ident, atom, address, arguments, after_first, store_cell, returned, block, stmt, return_stmt, ◌▸◌, ◌◂◌, ◌∣◌}
 
 -- the classes of tokens that locals begin with, and statements
 abbrev pub kinds : List ℕ

@@ -1,5 +1,5 @@
 use Rattle.std.proofs.Common.{◌∷◌, [], refl}
-use Rattle.mm_c_parse.proofs.Steps.{bad, tl, passed_, broken_, rg, fg, ff, mr, mf, kr, kf, nr, nf, ug, uf}
+use Rattle.mm_c_parse.proofs.Steps.{bad, tl, passed_, broken_, rg, fg, mr, mf, kr, kf, nr, nf, ug, uf}
 use Rattle.mm_c_parse_stmt.proofs.Locals.{pointer_then, pointer_then_not, no_pointer}
 use Rattle.mm_c_parse_stmt.proofs.local.local.Goals as goal
 

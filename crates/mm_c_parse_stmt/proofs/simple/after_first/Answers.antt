@@ -2,7 +2,7 @@ use Rattle.std.proofs.Common.{◌∷◌, [], refl, ap, ◌∙◌}
 use Rattle.mm_c.specs.Tree as t
 use Rattle.mm_c.specs.View.{stmt_view}
 use Rattle.mm_c.proofs.Views.{view-Assign, view-Call}
-use Rattle.mm_c_parse.proofs.Steps.{yes_, ok, no_, passed_, broken_, rg, fg, rs, fs, mr, mf, mb, kr, kf, nr, nf, ug, uf}
+use Rattle.mm_c_parse.proofs.Steps.{yes_, ok, no_, passed_, broken_, rg, fg, mr, mf, mb, kr, kf, nr, nf, ug, uf}
 use Rattle.mm_c_parse.proofs.Seen.{bad_seen}
 use Rattle.mm_c_parse_stmt.proofs.simple.after_first.Goals as goal
 

@@ -1,4 +1,4 @@
-use Rattle.std.proofs.Common.{refl, ap, ◌∙◌}
+use Rattle.std.proofs.Common.{ap, ◌∙◌}
 use Rattle.mm_c.specs.View.{stmt_view}
 use Rattle.mm_c.proofs.Views.{view-Return, view-ReturnValue}
 use Rattle.mm_c_parse.proofs.Steps.{yes_, ok, no_, passed_, broken_}
