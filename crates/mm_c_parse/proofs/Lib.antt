@@ -3,3 +3,5 @@ pub mod Words
 pub mod Skips
 pub mod Ops
 pub mod Lists
+pub mod Many
+pub mod Seen

@@ -1,5 +1,6 @@
 -- What a reader of tokens says of the part of the grammar that it reads. Own.
 use Rattle.std.specs.Prelude.{◌≡◌, ℕ, Bool, true, false, List, [], ◌∷◌, ◌++◌, map, Result, Ok, Err}
+use Rattle.std.specs.Result.{result_map_both}
 use Rattle.mm_grammar.specs.Grammar.{Avoids, Reads, Fails}
 use Rattle.mm_c.specs.Tokens.{Token, class_of}
 use Rattle.mm_c.specs.Grammar.{P, texts, w, ◌▸◌}
@@ -40,3 +41,7 @@ pub record Skips (c : ℕ) (ts : List Token) (b : Bool) (rest : List Token) : Ty
 abbrev pub behind : {A : Type 0} → List ℕ → P A → P A
 behind [] q = q
 behind (c ∷ cs) q = w c ▸ behind cs q
+
+-- an answer, with what its value is seen as
+abbrev pub seen : {A B : Type 0} → (A → B) → Result A Stop → Result B Stop
+seen f r = result_map_both f (λ e. e) r

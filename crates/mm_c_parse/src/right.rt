@@ -1,6 +1,6 @@
 // Right sides of assignments, and calls.
 
-ghost use Rattle.std.specs.Prelude.{◌≡◌, [], ◌∷◌, ◌++◌, IfOk, OnOk};
+ghost use Rattle.std.specs.Prelude.{◌≡◌};
 ghost use Rattle.mm_grammar.specs.Grammar.{name};
 ghost use Rattle.mm_c.specs.Grammar as grammar;
 ghost use Rattle.mm_c.specs.Grammar.{listed};
@@ -8,6 +8,7 @@ ghost use Rattle.mm_c_text.specs.Cursor.{Eats};
 ghost use Rattle.mm_c_parse.specs.Steps.{Answers};
 ghost use Rattle.mm_c_parse.specs.Parts.{arguments_end, after_name_of, closed_name, closed_tag, index_end, indexed_of, negated, operated_of, signs, operator_of};
 
+use crate::list::{push, single};
 use crate::operand::{address, atom, load_cell, tag};
 use crate::step::{Stop, eat_name, eat_number, ident, marks, number, skip, text_of, value_of};
 use mm_base::text::Text;
@@ -15,7 +16,7 @@ use mm_c::tree::{CAddress, CAtom, CCall, CExpr, CIndex, COperator};
 use mm_c_text::class::Class;
 use mm_c_text::cursor::{Cursor, Lexeme};
 use sqlite_items::Items;
-use std::alloc::{AllocError, Global};
+use std::alloc::Global;
 
 /// Takes the next token where it is an operator.
 pub fn eat_sign<'a>(cursor: &mut Cursor<'a>) -> Option<Lexeme<'a>>
@@ -53,22 +54,6 @@ pub fn operator(class: Class) -> COperator
         Class::EqualEqual => COperator::Equal,
         _ => COperator::NotEqual,
     }
-}
-
-// a list of one operand
-fn single(alloc: Global, item: CAtom) -> Result<Items<CAtom>, AllocError>
-    ensures { IfOk result (λ v. v ≡ item ∷ []) }
-{
-    let mut list = Items::new(alloc);
-    list.push(item)?;
-    Ok(list)
-}
-
-fn push(list: &mut Items<CAtom>, item: CAtom) -> Result<(), AllocError>
-    ensures { OnOk result (list.new ≡ list.old ++ item ∷ []) }
-{
-    list.push(item)?;
-    Ok(())
 }
 
 // operands, joined by commas

@@ -1,14 +1,15 @@
 -- What a cursor stands before.
-use Rattle.std.specs.Prelude.{true, false}
+use Rattle.std.specs.Prelude.{Bool, true, false}
 use Rattle.std.proofs.Common.{◌≡◌, ℕ, suc, zero, ◌<◌, ◌≤◌, ◌-◌, List, [], ◌∷◌, ◌+◌, length, get_or, take, drop, refl, sym, ap, ◌∙◌, arith, subst, Some, None}
 use Rattle.std.proofs.lemmas.List.{take-append-drop, take_all, length-drop}
 use Rattle.mm_grammar.specs.Grammar.{has}
 use Rattle.mm_c.specs.Tokens.{Token, is_white, classes, class_in, class_of, past, cut, in_front, tokens_from, end_from}
 use Rattle.mm_c.specs.Tokens as tokens
 use Rattle.mm_c.proofs.Lexing as lexing
+use Rattle.mm_c_text.specs.Places.{at}
 use Rattle.mm_c_text.specs.Scan.{Dark}
 use Rattle.mm_c_text.specs.Classes.{number_of}
-use Rattle.mm_c_text.specs.Cursor.{class_at, left_of, IsNext, Eats, token_of}
+use Rattle.mm_c_text.specs.Cursor.{class_at, left_of, IsNext, Eats, Sees, token_of}
 use Rattle.mm_c_text.specs.declared.cursor.Lexeme.{Lexeme}
 use Rattle.mm_c_text.proofs.Firsts.{first_token}
 
@@ -93,3 +94,12 @@ eats_some cs x here after rest e l k h = (
 -- what is left of bytes behind the first of them
 pub rest_is : (bytes : List ℕ) (n : ℕ) → take (length bytes - n) (drop n bytes) ≡ drop n bytes
 rest_is bytes n = take_all (length bytes - n) (drop n bytes) (let e = length-drop n bytes in omega arith)
+
+pub sees_end : (cs : List ℕ) (ts : List Token) (b : Bool) → b ≡ false → ts ≡ [] → Sees cs ts b
+sees_end cs ts b n e = record { yes = λ y. let f = sym y ∙ n in absurd (cc); no = λ _. (eats_none_end cs ts e).1 }
+
+pub sees_next : (cs : List ℕ) (x : Lexeme) (here after : tokens.Place) (rest : List ℕ) (b : Bool) → here ≡ at x.place → 0 < length x.text.now → number_of x.class ≡ class_at x.text.now → b ≡ has (number_of x.class) cs → Sees cs (left_of x.text.now here after rest) b
+sees_next cs x here after rest b p l k h = record {
+  yes = λ y. let e = eats_some cs x here after rest p l k (sym h ∙ y) in (token_of x, tokens_from after rest, e.0, e.1);
+  no = λ n. (eats_none_other cs x.text.now here after rest l (ap (λ c. has c cs) (sym k) ∙ (sym h ∙ n))).1;
+}

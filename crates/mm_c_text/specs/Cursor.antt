@@ -1,6 +1,6 @@
 -- The tokens that are left of a C text, and what a cursor says of them. Own.
-use Rattle.std.specs.Prelude.{◌≡◌, ◌<◌, take, drop, ℕ, IsTrue, List, [], ◌∷◌, length, Option, Some, None}
-use Rattle.mm_grammar.specs.Grammar.{has, Avoids}
+use Rattle.std.specs.Prelude.{◌≡◌, ◌<◌, take, drop, ℕ, Bool, true, false, IsTrue, List, [], ◌∷◌, length, Option, Some, None}
+use Rattle.mm_grammar.specs.Grammar.{has, Begins, Avoids}
 use Rattle.mm_c.specs.Tokens.{Token, classes, class_in, class_of, in_front, tokens_from}
 use Rattle.mm_c.specs.Tokens as tokens
 use Rattle.mm_c.specs.Grammar.{texts}
@@ -39,6 +39,11 @@ token_of x = record { text = x.text.now; place = at x.place }
 abbrev pub Eats : List ℕ → List Token → Option Lexeme → List Token → Type 0
 Eats cs ts None rest = (rest ≡ ts) × Avoids texts cs ts
 Eats cs ts (Some x) rest = (ts ≡ token_of x ∷ rest) × IsTrue (has (class_of (token_of x)) cs) × (number_of x.class ≡ class_of (token_of x))
+
+-- The first of the tokens is of one of these classes, or not.
+pub record Sees (cs : List ℕ) (ts : List Token) (b : Bool) : Type 0 where
+  pub yes : b ≡ true → Begins texts cs ts
+  pub no : b ≡ false → Avoids texts cs ts
 
 -- where the first of the tokens stands
 abbrev pub IsPlaceOf : Option Place → List Token → Type 0

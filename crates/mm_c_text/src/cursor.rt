@@ -6,7 +6,7 @@ ghost use Rattle.mm_c.specs.Tokens.{tokens_from, tokens_of};
 ghost use Rattle.mm_c_text.specs.Places.{at, Fits};
 ghost use Rattle.mm_c_text.specs.Classes.{number_of};
 ghost use Rattle.mm_c_text.specs.Scan.{Dark};
-ghost use Rattle.mm_c_text.specs.Cursor.{Eats, class_at, left_of, IsAt, IsNext, IsPlaceOf};
+ghost use Rattle.mm_c_text.specs.Cursor.{Eats, Sees, class_at, left_of, IsAt, IsNext, IsPlaceOf};
 
 use crate::class::{Class, classify, number};
 use crate::place::{Place, end, first};
@@ -123,6 +123,13 @@ impl<'a> Cursor<'a> {
         } else {
             Some(self.next.place)
         }
+    }
+
+    /// Whether the next token is of one of these classes.
+    pub fn sees(&self, classes: &[Class]) -> bool
+        ensures { Sees (map number_of classes.now) self.now result }
+    {
+        !self.next.text.is_empty() && is_among(number(self.next.class), classes)
     }
 
     /// Takes the next token where it is of one of these classes.

@@ -1,0 +1,4 @@
+//! Readers of the items of a C text, and of whole programs.
+#![tactic(auto)]
+
+pub mod program;
