@@ -1,4 +1,6 @@
 //! Readers of the items of a C text, and of whole programs.
 #![tactic(auto)]
 
+pub mod array;
+pub mod kind;
 pub mod program;
