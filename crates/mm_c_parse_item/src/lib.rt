@@ -2,5 +2,6 @@
 #![tactic(auto)]
 
 pub mod array;
+pub mod item;
 pub mod kind;
 pub mod program;
