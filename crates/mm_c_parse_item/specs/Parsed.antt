@@ -1,5 +1,5 @@
 -- What a program that was read is: the value of the grammar's rule. Own.
-use Rattle.std.specs.Prelude.{Result, Ok, Err}
+use Rattle.std.specs.Prelude.{Result}
 use Rattle.std.specs.Result.{result_map_both}
 use Rattle.mm_c.specs.Tree.{Program}
 use Rattle.mm_c.specs.Grammar.{Placed}
