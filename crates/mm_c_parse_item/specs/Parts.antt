@@ -1,6 +1,6 @@
 -- The parts of the grammar of items that functions of their own read. Own.
-use Rattle.std.specs.Prelude.{ℕ, Bool, true, false, List, [], ◌∷◌, Option, Some, None}
-use Rattle.mm_grammar.specs.Grammar.{give, name, opt, seq}
+use Rattle.std.specs.Prelude.{ℕ, Bool, true, false, List, [], ◌∷◌, map, flat_map, Option, Some, None}
+use Rattle.mm_grammar.specs.Grammar.{give, many, name, opt, seq}
 use Rattle.mm_c.specs.declared.tree.CKind.{CKind}
 use Rattle.mm_c.specs.declared.tree.CNumber.{CNumber}
 use Rattle.mm_c.specs.declared.tree.CLocal.{CLocal}
@@ -9,7 +9,7 @@ use Rattle.mm_c.specs.declared.tree.CLinkage.{CLinkage}
 use Rattle.mm_c.specs.declared.tree.CLinkage.TheVariants as linkage_is
 use Rattle.mm_c.specs.Tree as t
 use Rattle.mm_c.specs.Tree.{Block, Item}
-use Rattle.mm_c.specs.Grammar.{P, Placed, around, as_, w, ident, number, listed, element, array_rule, head, block, result, result_at, function_of, is_there, ◌▸◌, ◌◂◌, ◌∣◌}
+use Rattle.mm_c.specs.Grammar.{P, Placed, around, as_, w, ident, number, listed, element, array_rule, head, item, block, result, result_at, function_of, is_there, ◌▸◌, ◌◂◌, ◌∣◌}
 
 -- ---- arrays
 
@@ -59,3 +59,19 @@ public_function = give (λ v. around (function_of linkage_is.Public v.0.0 v.1.0 
 -- the classes of tokens that items begin with
 abbrev pub item_firsts : List ℕ
 item_firsts = 40 ∷ 41 ∷ 44 ∷ 45 ∷ 46 ∷ 47 ∷ 48 ∷ []
+
+abbrev pub items_of : List (Placed Item) → Placed (List Item)
+items_of xs = record { tree = map (λ (x : Placed Item). x.tree) xs; places = flat_map (λ (x : Placed Item). x.places) xs }
+
+-- the items of a program
+abbrev pub items : P (Placed (List Item))
+items = give items_of (many (name item))
+
+-- the classes of the tokens of the prelude
+abbrev pub prelude_classes : List ℕ
+prelude_classes =
+    56 ∷ 44 ∷ 1 ∷ 20 ∷ 45 ∷ 21 ∷ 26
+    ∷ 56 ∷ 45 ∷ 2 ∷ 20 ∷ 44 ∷ 21 ∷ 26
+    ∷ 56 ∷ 45 ∷ 3 ∷ 20 ∷ 44 ∷ 21 ∷ 26
+    ∷ 56 ∷ 44 ∷ 4 ∷ 20 ∷ 45 ∷ 21 ∷ 26
+    ∷ 56 ∷ 48 ∷ 29 ∷ 5 ∷ 20 ∷ 46 ∷ 21 ∷ 26 ∷ []
