@@ -1,6 +1,6 @@
 // Where items and statements begin, in the order of the text.
 
-ghost use Rattle.std.specs.Prelude.{◌≡◌, [], ◌∷◌, ◌++◌, IfOk, OnOk, slice_get};
+ghost use Rattle.std.specs.Prelude.{◌≡◌, [], ◌∷◌, ◌++◌, IfOk, OnOk, length, slice_get};
 ghost use Rattle.std.specs.Option.{option_map};
 ghost use Rattle.mm_c_text.specs.Classes.{number_of};
 ghost use Rattle.mm_c_text.specs.Places.{at};
@@ -45,6 +45,13 @@ impl Places {
     {
         self.list.push(place)?;
         Ok(())
+    }
+
+    /// How many there are.
+    pub fn len(&self) -> usize
+        ensures { result ≡ length self.now }
+    {
+        self.list.len()
     }
 
     /// The place of this number, from 0.
