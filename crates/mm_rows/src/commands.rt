@@ -92,7 +92,7 @@ fn command(
     })
 }
 
-fn outcome(alloc: Global, row: &Row) -> Result<Outcome, AllocError> {
+fn come_of(alloc: Global, row: &Row) -> Result<Outcome, AllocError> {
     command(
         alloc,
         row.words,
@@ -117,9 +117,13 @@ fn again(alloc: Global, row: &Row) -> Result<Outcome, AllocError> {
 }
 
 const OVERFLOW: &str = "int main() { mm_put(2147483647 + 1); return 0; }";
+
 const FOR_EVER: &str = "int main() { while (1) mm_put(1); }";
+
 const READS_TWO: &str = "int main() { mm_put(mm_get()); mm_put(mm_get()); return 0; }";
+
 const NO_RESULT: &str = "int g() { }\nint main() { return g(); }";
+
 const DEEP: &str =
     "int f(int n) { if (n == 0) return 0; return f(n - 1); } int main() { return f(200000); }";
 
@@ -182,7 +186,7 @@ const RUNS: [Row; 9] = [
 #[test]
 fn runs_tell_what_is_put_and_how_they_end(rt: HostRuntime) -> Result<(), Fail> {
     for row in &RUNS {
-        let o = outcome(rt.alloc(), row)?;
+        let o = come_of(rt.alloc(), row)?;
         assert_eq!(rt; o.status, row.status);
         assert_eq!(rt; o.out.as_slice(), row.out.as_bytes());
         assert!(rt; o.err.is_empty());
@@ -203,8 +207,10 @@ fn linked_texts_run_alike(rt: HostRuntime) -> Result<(), Fail> {
 
 const PRELUDE_TEXT: &str =
     "extern void mm_put ( int ) ; extern int mm_get ( void ) ; extern int mm_more ( void ) ; extern void mm_trap ( int ) ; extern char * mm_new ( unsigned ) ;\nint main ( void ) {\nint x = 0 ;\nx = 40 + 2 ;\nmm_put ( x ) ;\nreturn 0 ;\n}\n";
+
 const STUCK_TEXT: &str =
     "extern void mm_put ( int ) ; extern int mm_get ( void ) ; extern int mm_more ( void ) ; extern void mm_trap ( int ) ; extern char * mm_new ( unsigned ) ;\nint main ( void ) {\nint x = 0 ;\nx = 2147483647 + 1 ;\nmm_put ( x ) ;\nreturn 0 ;\n}\n";
+
 const UNDECLARED_TEXT: &str =
     "extern void mm_put ( int ) ; extern int mm_get ( void ) ; extern int mm_more ( void ) ; extern void mm_trap ( int ) ; extern char * mm_new ( unsigned ) ;\nint main ( void ) {\nint x = 0 ;\ny = 40 + 2 ;\nmm_put ( x ) ;\nreturn 0 ;\n}\n";
 
@@ -343,7 +349,7 @@ const REFUSED: [Row; 16] = [
 
 fn all_are(rt: &impl Abort, alloc: Global, rows: &[Row]) -> Result<(), Fail> {
     for row in rows {
-        let o = outcome(alloc, row)?;
+        let o = come_of(alloc, row)?;
         assert_eq!(rt; o.status, row.status);
         assert_eq!(rt; o.out.as_slice(), row.out.as_bytes());
         assert_eq!(rt; o.err.as_slice(), row.err.as_bytes());
@@ -354,30 +360,54 @@ fn all_are(rt: &impl Abort, alloc: Global, rows: &[Row]) -> Result<(), Fail> {
 // A text, and where its first fault is and what it is.
 const FAULTS: [(&str, &str); 27] = [
     ("int main() { return x; }", "m.cc:1:21: S1 x\n"),
-    ("int main() { int x; int x; return 0; }", "m.cc:1:25: S2 x\n"),
-    ("int f(int a) { return a; } int main() { return f(); }", "m.cc:1:48: S8 f\n"),
+    (
+        "int main() { int x; int x; return 0; }",
+        "m.cc:1:25: S2 x\n",
+    ),
+    (
+        "int f(int a) { return a; } int main() { return f(); }",
+        "m.cc:1:48: S8 f\n",
+    ),
     (
         "int f(int a, unsigned b) { return 0; }\nint f(unsigned a, int b) { return 0; }\nint main() { return f(1, 1); }",
         "m.cc:3:21: S9 f\n",
     ),
-    ("void f() { }\nint main() { int x = f(); return 0; }", "m.cc:2:22: S10 f\n"),
+    (
+        "void f() { }\nint main() { int x = f(); return 0; }",
+        "m.cc:2:22: S10 f\n",
+    ),
     ("int main() { 1 = 2; return 0; }", "m.cc:1:16: S12 =\n"),
     ("int main() { break; }", "m.cc:1:14: S13 break\n"),
-    ("void f() { return 1; }\nint main() { return 0; }", "m.cc:1:12: S14 return\n"),
-    ("int main() { int mm_x; return 0; }", "m.cc:1:18: S18 mm_x\n"),
+    (
+        "void f() { return 1; }\nint main() { return 0; }",
+        "m.cc:1:12: S14 return\n",
+    ),
+    (
+        "int main() { int mm_x; return 0; }",
+        "m.cc:1:18: S18 mm_x\n",
+    ),
     (
         "int f(int,int,int,int,int,int,int,int,int,int,int,int,int,int,int,int,int,int,int,int,int,int,int,int,int,int,int,int,int,int,int,int,int);\nint main() { return 0; }",
         "m.cc:1:5: S20 f\n",
     ),
-    ("int f(int, bool);\nint main() { return f(1, true); }", "m.cc:1:5: P4 f(int,bool)\n"),
+    (
+        "int f(int, bool);\nint main() { return f(1, true); }",
+        "m.cc:1:5: P4 f(int,bool)\n",
+    ),
     ("int f() { return 0; }", "m.cc:1:1: P5 main\n"),
     ("class A { };\nint main() { return x; }", "m.cc:1:1: N0\n"),
     ("int main() { x; break; }", "m.cc:1:14: S1 x\n"),
     ("int main() { break; x; }", "m.cc:1:14: S13 break\n"),
     ("int main() { int a; int a; 1 = 2; }", "m.cc:1:25: S2 a\n"),
     ("int main() { 1 = 2; int a; int a; }", "m.cc:1:16: S12 =\n"),
-    ("int f(int a) { return a; }\nint main() { f(); int mm_x; }", "m.cc:2:14: S8 f\n"),
-    ("int f(int a) { return a; }\nint main() { int mm_x; f(); }", "m.cc:2:18: S18 mm_x\n"),
+    (
+        "int f(int a) { return a; }\nint main() { f(); int mm_x; }",
+        "m.cc:2:14: S8 f\n",
+    ),
+    (
+        "int f(int a) { return a; }\nint main() { int mm_x; f(); }",
+        "m.cc:2:18: S18 mm_x\n",
+    ),
     (
         "int f(int a, unsigned b);\nint f(unsigned a, int b);\nint main() { f(1, 1); y; }",
         "m.cc:3:14: S9 f\n",
@@ -386,8 +416,14 @@ const FAULTS: [(&str, &str); 27] = [
         "int f(int a, unsigned b);\nint f(unsigned a, int b);\nint main() { y; f(1, 1); }",
         "m.cc:3:14: S1 y\n",
     ),
-    ("void f() { }\nint main() { int x = f(); continue; }", "m.cc:2:22: S10 f\n"),
-    ("void f() { }\nint main() { continue; int x = f(); }", "m.cc:2:14: S13 continue\n"),
+    (
+        "void f() { }\nint main() { int x = f(); continue; }",
+        "m.cc:2:22: S10 f\n",
+    ),
+    (
+        "void f() { }\nint main() { continue; int x = f(); }",
+        "m.cc:2:14: S13 continue\n",
+    ),
     (
         "void f() { return 1; }\nint g(int,int,int,int,int,int,int,int,int,int,int,int,int,int,int,int,int,int,int,int,int,int,int,int,int,int,int,int,int,int,int,int,int);",
         "m.cc:1:12: S14 return\n",
@@ -396,14 +432,20 @@ const FAULTS: [(&str, &str); 27] = [
         "int g(int,int,int,int,int,int,int,int,int,int,int,int,int,int,int,int,int,int,int,int,int,int,int,int,int,int,int,int,int,int,int,int,int);\nvoid f() { return 1; }",
         "m.cc:1:5: S20 g\n",
     ),
-    ("int f();\nint g();\nint h() { return g() + f(); }", "m.cc:1:5: P4 f()\n"),
-    ("int g();\nint f();\nint h() { return f() + g(); }", "m.cc:1:5: P4 g()\n"),
+    (
+        "int f();\nint g();\nint h() { return g() + f(); }",
+        "m.cc:1:5: P4 f()\n",
+    ),
+    (
+        "int g();\nint f();\nint h() { return f() + g(); }",
+        "m.cc:1:5: P4 g()\n",
+    ),
 ];
 
 #[test]
 fn first_faults_are_told(rt: HostRuntime) -> Result<(), Fail> {
     for (text, message) in FAULTS {
-        let o = outcome(rt.alloc(), &Row { text, ..LINK })?;
+        let o = come_of(rt.alloc(), &Row { text, ..LINK })?;
         assert_eq!(rt; o.status, 1);
         assert!(rt; o.out.is_empty());
         assert_eq!(rt; o.err.as_slice(), message.as_bytes());
