@@ -1,9 +1,7 @@
-pub mod Words
-pub mod Entries
-pub mod Scopes
 pub mod Arguments
 pub mod Keeping
-pub mod Distinct
+pub mod Deep
+pub mod Own
 pub mod Pairs
 pub mod Sequence
 pub mod Both

@@ -1,5 +1,3 @@
-pub mod Words
-pub mod Entries
 pub mod Scopes
 pub mod Keeps
 pub mod Locals

@@ -1,12 +1,10 @@
--- What stands at one item of a program: whether it breaks a rule, and whether each statement in it does.
-use Rattle.std.specs.Prelude.{ℕ, ◌+◌, Bool, not, List, ◌∷◌, map, take, drop}
-use Rattle.mm_c.specs.declared.tree.CItem.{CItem}
-use Rattle.mm_c.specs.View.{item_view}
-use Rattle.mm_c.specs.WellFormed.{item_fits, inner_breaks}
-use Rattle.mm_c_rules.specs.Entries.{table_of}
-use Rattle.mm_c_rules.specs.Locals.{globals_in}
+-- What stands inside a statement: whether each statement there breaks a rule.
+use Rattle.std.specs.Prelude.{Bool, true, List, [], ◌++◌}
+use Rattle.mm_c.specs.Tree.{Stmt, assign, store, run, if_only, if_else, forever, break, continue, leave, return}
+use Rattle.mm_c.specs.WellFormed.{Here, block_breaks}
 
-abbrev pub one_breaks : List CItem → ℕ → CItem → List Bool
-one_breaks items i item =
-    not (item_fits (table_of (take i items)) (globals_in items) (map item_view (drop (i + 1) items)) (item_view item))
-    ∷ inner_breaks (table_of (take (i + 1) items)) (item_view item)
+abbrev pub inner : Here → Stmt → List Bool
+inner h (if_only a b) = block_breaks h b
+inner h (if_else a b c) = block_breaks h b ++ block_breaks h c
+inner h (forever b) = block_breaks (record h { in_loop = true }) b
+inner h _ = []

@@ -1,21 +1,24 @@
 // Items by themselves.
 
-ghost use Rattle.std.specs.Prelude.{◌≡◌, ◌<◌, ◌&&◌, ℕ, length, List, [], ◌∷◌, Some, map, option_map, slice_get, MatchOption};
+ghost use Rattle.std.specs.Prelude.{◌≡◌, ◌<◌, ◌&&◌, ℕ, length, List, [], ◌∷◌, Some, map, option_map, slice_get, IfOk};
 ghost use Rattle.std.specs.Borrow.{Bor};
 ghost use Rattle.mm_c.specs.declared.tree.CLocal.{CLocal};
 ghost use Rattle.mm_c.specs.WellFormed as w;
 ghost use Rattle.std.specs.Str.{bytes_eq};
-ghost use Rattle.mm_c.specs.Tree.{Item};
 ghost use Rattle.mm_c.specs.View.{item_view, function_view};
 ghost use Rattle.mm_c.specs.WellFormed.{is_name, is_in, entry_in, same_kind, same_result, same_kinds, same_params, is_public, is_new, is_long, is_callable, is_function_in, functions_fit, elements_fit, array_fits, definitions, same_linkage, defines, may_define, takes_nothing, head_fits, function_fits, list_every, item_fits};
-ghost use Rattle.mm_c_rules.specs.Entries.{params_view, entry_view, table_of};
-ghost use Rattle.mm_c_rules.specs.Locals.{globals_in};
+ghost use Rattle.mm_c_names.specs.Entries.{params_view, entry_view, table_of};
+ghost use Rattle.mm_c_names.specs.Tables.{globals_in};
 
-use crate::entry::{Entry, Params, entry_of, param_count, param_kind};
-use crate::locals::{block_is_within, locals_fit};
-use crate::names::{is_name, is_number, kind_number, result_number};
+use crate::depth::block_is_within;
+use crate::locals::locals_fit;
 use mm_base::text::Text;
 use mm_c::tree::{CArray, CElement, CFn, CItem, CKind, CLinkage, CLocal, CProto, CTypedef};
+use mm_c_names::declared::Declared;
+use mm_c_names::entry::{Entry, Params, param_count, param_kind};
+use mm_c_names::globals::{Defined, Globals};
+use mm_c_names::names::{is_name, is_number, kind_number, result_number};
+use std::alloc::{AllocError, Global};
 
 fn same_result(first: Option<CKind>, second: Option<CKind>) -> bool
     ensures { result ≡ same_result first second }
@@ -81,19 +84,19 @@ fn same_params(first: &[CLocal], second: &[CLocal]) -> bool
     first.len() == second.len()
 }
 
-fn is_declared(before: &[CItem], name: &Text) -> bool
-    ensures { result ≡ is_in (map (λ (e : List ℕ × w.Entry). e.0) (table_of before.now)) name.now }
+fn is_declared(declared: &Declared<'_>, name: &Text) -> bool
+    ensures { result ≡ is_in (map (λ (e : List ℕ × w.Entry). e.0) (table_of declared.now)) name.now }
 {
-    match entry_of(before, name.as_bytes()) {
+    match declared.entry_of(name) {
         Some(_) => true,
         None => false,
     }
 }
 
-fn is_new(before: &[CItem], name: &Text) -> bool
-    ensures { result ≡ is_new (table_of before.now) name.now }
+fn is_new(declared: &Declared<'_>, name: &Text) -> bool
+    ensures { result ≡ is_new (table_of declared.now) name.now }
 {
-    is_name(name.as_bytes()) && !is_declared(before, name)
+    is_name(name.as_bytes()) && !is_declared(declared, name)
 }
 
 fn is_long(element: &CElement) -> bool
@@ -120,20 +123,20 @@ fn is_callable(typedef: &CTypedef, entry: &Entry<'_>) -> bool
     }
 }
 
-fn is_named_callable(before: &[CItem], typedef: &CTypedef, name: &Text) -> bool
-    ensures { result ≡ is_callable typedef.now.result typedef.now.kinds (entry_in (table_of before.now) name.now) }
+fn is_named_callable(declared: &Declared<'_>, typedef: &CTypedef, name: &Text) -> bool
+    ensures { result ≡ is_callable typedef.now.result typedef.now.kinds (entry_in (table_of declared.now) name.now) }
 {
-    match entry_of(before, name.as_bytes()) {
+    match declared.entry_of(name) {
         Some(entry) => is_callable(typedef, &entry),
         None => false,
     }
 }
 
-fn is_function_in(before: &[CItem], typedef: &CTypedef, element: &CElement) -> bool
-    ensures { result ≡ is_function_in (table_of before.now) typedef.now.result typedef.now.kinds element.now }
+fn is_function_in(declared: &Declared<'_>, typedef: &CTypedef, element: &CElement) -> bool
+    ensures { result ≡ is_function_in (table_of declared.now) typedef.now.result typedef.now.kinds element.now }
 {
     match element {
-        CElement::Name(name) => is_named_callable(before, typedef, name),
+        CElement::Name(name) => is_named_callable(declared, typedef, name),
         CElement::Number(_) => false,
         CElement::Negative(_) => false,
     }
@@ -150,82 +153,46 @@ fn are_long(elements: &[CElement]) -> bool
     true
 }
 
-fn are_functions(before: &[CItem], typedef: &CTypedef, elements: &[CElement]) -> bool
-    ensures { result ≡ list_every (is_function_in (table_of before.now) typedef.now.result typedef.now.kinds) elements.now }
+fn are_functions(declared: &Declared<'_>, typedef: &CTypedef, elements: &[CElement]) -> bool
+    ensures { result ≡ list_every (is_function_in (table_of declared.now) typedef.now.result typedef.now.kinds) elements.now }
 {
     for element in elements {
-        if !is_function_in(before, typedef, element) {
+        if !is_function_in(declared, typedef, element) {
             return false;
         }
     }
     true
 }
 
-fn functions_fit(before: &[CItem], name: &Text, elements: &[CElement]) -> bool
-    ensures { result ≡ functions_fit (table_of before.now) elements.now (entry_in (table_of before.now) name.now) }
+fn functions_fit(declared: &Declared<'_>, name: &Text, elements: &[CElement]) -> bool
+    ensures { result ≡ functions_fit (table_of declared.now) elements.now (entry_in (table_of declared.now) name.now) }
 {
-    match entry_of(before, name.as_bytes()) {
+    match declared.entry_of(name) {
         None => false,
-        Some(Entry::FunctionsType(typedef)) => are_functions(before, typedef, elements),
+        Some(Entry::FunctionsType(typedef)) => are_functions(declared, typedef, elements),
         Some(Entry::NumbersArray) => false,
         Some(Entry::FunctionsArray(_)) => false,
         Some(Entry::Callable(_)) => false,
     }
 }
 
-fn elements_fit(before: &[CItem], array: &CArray) -> bool
-    ensures { result ≡ elements_fit (table_of before.now) array.now.functions array.now.elements }
+fn elements_fit(declared: &Declared<'_>, array: &CArray) -> bool
+    ensures { result ≡ elements_fit (table_of declared.now) array.now.functions array.now.elements }
 {
     match &array.functions {
         None => are_long(array.elements.as_slice()),
-        Some(name) => functions_fit(before, name, array.elements.as_slice()),
+        Some(name) => functions_fit(declared, name, array.elements.as_slice()),
     }
 }
 
-fn array_fits(before: &[CItem], array: &CArray) -> bool
-    ensures { result ≡ array_fits (table_of before.now) array.now }
+fn array_fits(declared: &Declared<'_>, array: &CArray) -> bool
+    ensures { result ≡ array_fits (table_of declared.now) array.now }
 {
-    is_new(before, &array.name)
+    is_new(declared, &array.name)
         && is_number(array.length)
         && array.length.value as usize == array.elements.as_slice().len()
         && array.length.value != 0
-        && elements_fit(before, array)
-}
-
-// the function of the name, if the item defines it
-fn as_definition<'a>(item: &'a CItem, name: &Text) -> Option<&'a CFn>
-    ensures { (more : List Item) →
-        MatchOption result
-        (definitions name.now (item_view item.now ∷ more) ≡ definitions name.now more)
-        (λ f. definitions name.now (item_view item.now ∷ more)
-        ≡ function_view f.now ∷ definitions name.now more) }
-{
-    match item {
-        CItem::Typedef(_) => None,
-        CItem::Array(_) => None,
-        CItem::Proto(_) => None,
-        CItem::Function(function) => {
-            if function.name.as_bytes() == name.as_bytes() {
-                return Some(function);
-            }
-            None
-        }
-    }
-}
-
-// the first definition of a name, and the items behind it
-#[tactic(auto, using(crate::proofs::Sequence::definitions_more))]
-fn next_definition<'a>(items: &'a [CItem], name: &Text) -> Option<(&'a CFn, &'a [CItem])>
-    ensures { MatchOption result (definitions name.now (map item_view items.now) ≡ [])
-        (λ d. definitions name.now (map item_view items.now)
-        ≡ function_view d.0.now ∷ definitions name.now (map item_view d.1.now)) }
-{
-    for i in 0..items.len() {
-        if let Some(function) = as_definition(&items[i], name) {
-            return Some((function, &items[i + 1..]));
-        }
-    }
-    None
+        && elements_fit(declared, array)
 }
 
 fn same_linkage(is_inline: bool, linkage: CLinkage) -> bool
@@ -246,23 +213,22 @@ fn same_words(proto: &CProto, function: &CFn) -> bool
         && same_params(proto.params.as_slice(), function.params.as_slice())
 }
 
-// whether one of these items defines the function, and with the same words
-fn is_defined(proto: &CProto, later: &[CItem]) -> bool
-    ensures { result ≡ defines proto.now (definitions proto.now.name (map item_view later.now)) }
+// whether an item of the program, and one alone, defines the function, and with the same words
+#[tactic(auto, using(crate::proofs::Sequence::defines_first))]
+fn is_defined(names: &Globals<'_>, proto: &CProto) -> bool
+    ensures { result ≡ defines proto.now (definitions proto.now.name (map item_view names.now)) }
 {
-    match next_definition(later, &proto.name) {
-        None => false,
-        Some((function, rest)) => match next_definition(rest, &proto.name) {
-            None => same_words(proto, function),
-            Some(_) => false,
-        },
+    match names.defined(&proto.name) {
+        Defined::Never => false,
+        Defined::Once(function) => same_words(proto, function),
+        Defined::Again(_, _) => false,
     }
 }
 
-fn may_define(before: &[CItem], name: &Text) -> bool
-    ensures { result ≡ may_define (entry_in (table_of before.now) name.now) }
+fn may_define(declared: &Declared<'_>, name: &Text) -> bool
+    ensures { result ≡ may_define (entry_in (table_of declared.now) name.now) }
 {
-    match entry_of(before, name.as_bytes()) {
+    match declared.entry_of(name) {
         None => true,
         Some(Entry::FunctionsType(_)) => false,
         Some(Entry::NumbersArray) => false,
@@ -301,49 +267,61 @@ fn head_fits(function: &CFn) -> bool
     !is_public(function.linkage)
 }
 
-fn may_be_defined(before: &[CItem], name: &Text) -> bool
-    ensures { result ≡ (is_name name.now && may_define (entry_in (table_of before.now) name.now)) }
+fn may_be_defined(declared: &Declared<'_>, name: &Text) -> bool
+    ensures { result ≡ (is_name name.now && may_define (entry_in (table_of declared.now) name.now)) }
 {
-    is_name(name.as_bytes()) && may_define(before, name)
+    is_name(name.as_bytes()) && may_define(declared, name)
 }
 
-fn head_may_stand(before: &[CItem], function: &CFn) -> bool
-    ensures { result ≡ (is_name function.now.name && may_define (entry_in (table_of before.now) function.now.name)
+fn head_may_stand(declared: &Declared<'_>, function: &CFn) -> bool
+    ensures { result ≡ (is_name function.now.name && may_define (entry_in (table_of declared.now) function.now.name)
         && head_fits (function_view function.now)) }
 {
-    may_be_defined(before, &function.name) && head_fits(function)
+    may_be_defined(declared, &function.name) && head_fits(function)
 }
 
 // The depth is asked before all that goes down into the blocks.
 #[tactic(auto, using(crate::proofs::Sequence::last_swap))]
-fn function_fits(before: &[CItem], items: &[CItem], function: &CFn) -> bool
-    ensures { result ≡ function_fits (table_of before.now) (globals_in items.now) (function_view function.now) }
+fn function_fits(
+    alloc: Global,
+    declared: &Declared<'_>,
+    names: &Globals<'_>,
+    function: &CFn,
+) -> Result<bool, AllocError>
+    ensures { IfOk result (λ b. b ≡ function_fits (table_of declared.now) (globals_in names.now) (function_view function.now)) }
 {
-    head_may_stand(before, function)
-        && block_is_within(&function.body, 4096)
-        && locals_fit(items, function)
+    if !(head_may_stand(declared, function) && block_is_within(&function.body, 4096)) {
+        return Ok(false);
+    }
+    locals_fit(alloc, names, function)
 }
 
-fn typedef_fits(before: &[CItem], typedef: &CTypedef) -> bool
-    ensures { result ≡ is_new (table_of before.now) typedef.now.name }
+fn typedef_fits(declared: &Declared<'_>, typedef: &CTypedef) -> bool
+    ensures { result ≡ is_new (table_of declared.now) typedef.now.name }
 {
-    is_new(before, &typedef.name)
+    is_new(declared, &typedef.name)
 }
 
-fn proto_fits(before: &[CItem], later: &[CItem], proto: &CProto) -> bool
-    ensures { result ≡ (is_new (table_of before.now) proto.now.name && defines proto.now (definitions proto.now.name (map item_view later.now))) }
+fn proto_fits(declared: &Declared<'_>, names: &Globals<'_>, proto: &CProto) -> bool
+    ensures { result ≡ (is_new (table_of declared.now) proto.now.name && defines proto.now (definitions proto.now.name (map item_view names.now))) }
 {
-    is_new(before, &proto.name) && is_defined(proto, later)
+    is_new(declared, &proto.name) && is_defined(names, proto)
 }
 
-/// Whether an item by itself keeps the rules, where these stand before and behind it.
-pub fn item_fits(before: &[CItem], items: &[CItem], later: &[CItem], item: &CItem) -> bool
-    ensures { result ≡ item_fits (table_of before.now) (globals_in items.now) (map item_view later.now) (item_view item.now) }
+/// Whether an item by itself keeps the rules, where these items stand before it in the program. A
+/// function that a head names is looked for among all items, since none before has the name.
+pub fn item_fits(
+    alloc: Global,
+    declared: &Declared<'_>,
+    names: &Globals<'_>,
+    item: &CItem,
+) -> Result<bool, AllocError>
+    ensures { IfOk result (λ b. b ≡ item_fits (table_of declared.now) (globals_in names.now) (map item_view names.now) (item_view item.now)) }
 {
     match item {
-        CItem::Typedef(typedef) => typedef_fits(before, typedef),
-        CItem::Array(array) => array_fits(before, array),
-        CItem::Proto(proto) => proto_fits(before, later, proto),
-        CItem::Function(function) => function_fits(before, items, function),
+        CItem::Typedef(typedef) => Ok(typedef_fits(declared, typedef)),
+        CItem::Array(array) => Ok(array_fits(declared, array)),
+        CItem::Proto(proto) => Ok(proto_fits(declared, names, proto)),
+        CItem::Function(function) => function_fits(alloc, declared, names, function),
     }
 }

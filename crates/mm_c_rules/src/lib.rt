@@ -1,11 +1,10 @@
-//! Whether a C program keeps the rules beside its grammar, and what breaks them first. Nothing is allocated.
+//! Whether a C program keeps the rules beside its grammar, and what breaks them first.
 #![tactic(auto, using(crate::proofs::Rules::rule_rules))]
 
-pub mod entry;
-pub mod here;
+mod depth;
+mod here;
 mod items;
 mod locals;
-mod names;
 mod operands;
 mod program;
 mod right;

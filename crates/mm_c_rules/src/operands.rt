@@ -3,20 +3,20 @@
 ghost use Rattle.std.specs.Prelude.{◌≡◌};
 ghost use Rattle.mm_c.specs.WellFormed.{is_of, number_fits, fits, all_fit, is_name_atom, is_offset, address_fits, is_index, index_fits, is_add, is_equality, is_arithmetic, both_fit, one_is_name, binary_fits};
 ghost use Rattle.mm_c.specs.declared.tree.CKind.TheVariants.{Int};
-ghost use Rattle.mm_c_rules.specs.Entries.{params_view};
+ghost use Rattle.mm_c_names.specs.Entries.{params_view};
 ghost use Rattle.mm_c_rules.specs.Scopes.{here_view};
 
-use crate::entry::{Params, param_count, param_kind};
-use crate::here::{Here, kind_in};
-use crate::names::{is_number, kind_number, result_number};
+use crate::here::Here;
 use mm_base::text::Text;
 use mm_c::tree::{CAddress, CAtom, CIndex, CKind, CNumber, COperator};
+use mm_c_names::entry::{Params, param_count, param_kind};
+use mm_c_names::names::{is_number, kind_number, result_number};
 
 /// Whether a name is seen and has the kind.
-pub fn is_of(here: &Here<'_>, kind: CKind, name: &Text) -> bool
+pub fn is_of(here: &Here<'_, '_>, kind: CKind, name: &Text) -> bool
     ensures { result ≡ is_of (here_view here.now) kind name.now }
 {
-    result_number(kind_in(here.scope, name.as_bytes())) == kind_number(kind)
+    result_number(here.scope.kind_in(name)) == kind_number(kind)
 }
 
 fn number_fits(kind: CKind, number: CNumber) -> bool
@@ -31,7 +31,7 @@ fn number_fits(kind: CKind, number: CNumber) -> bool
 }
 
 /// Whether an operand may stand where the kind is wanted.
-pub fn fits(here: &Here<'_>, kind: CKind, atom: &CAtom) -> bool
+pub fn fits(here: &Here<'_, '_>, kind: CKind, atom: &CAtom) -> bool
     ensures { result ≡ fits (here_view here.now) kind atom.now }
 {
     match atom {
@@ -45,7 +45,7 @@ pub fn fits(here: &Here<'_>, kind: CKind, atom: &CAtom) -> bool
 }
 
 /// Whether these are arguments for these parameters.
-pub fn all_fit(here: &Here<'_>, params: &Params<'_>, atoms: &[CAtom]) -> bool
+pub fn all_fit(here: &Here<'_, '_>, params: &Params<'_>, atoms: &[CAtom]) -> bool
     ensures { result ≡ all_fit (here_view here.now) (params_view params.now) atoms.now }
 {
     for i in 0..atoms.len() {
@@ -70,7 +70,7 @@ fn is_name_atom(atom: &CAtom) -> bool
     }
 }
 
-fn is_offset(here: &Here<'_>, atom: &CAtom) -> bool
+fn is_offset(here: &Here<'_, '_>, atom: &CAtom) -> bool
     ensures { result ≡ is_offset (here_view here.now) atom.now }
 {
     match atom {
@@ -82,7 +82,7 @@ fn is_offset(here: &Here<'_>, atom: &CAtom) -> bool
 }
 
 /// Whether a place of a cell fits.
-pub fn address_fits(here: &Here<'_>, address: &CAddress) -> bool
+pub fn address_fits(here: &Here<'_, '_>, address: &CAddress) -> bool
     ensures { result ≡ address_fits (here_view here.now) address.now }
 {
     is_of(here, CKind::Pointer, &address.pointer)
@@ -91,14 +91,14 @@ pub fn address_fits(here: &Here<'_>, address: &CAddress) -> bool
 }
 
 /// Whether a name may be an index.
-pub fn is_index(here: &Here<'_>, name: &Text) -> bool
+pub fn is_index(here: &Here<'_, '_>, name: &Text) -> bool
     ensures { result ≡ is_index (here_view here.now) name.now }
 {
     is_of(here, CKind::Int, name) || is_of(here, CKind::Long, name)
 }
 
 /// Whether an index fits.
-pub fn index_fits(here: &Here<'_>, index: &CIndex) -> bool
+pub fn index_fits(here: &Here<'_, '_>, index: &CIndex) -> bool
     ensures { result ≡ index_fits (here_view here.now) index.now }
 {
     match index {
@@ -161,7 +161,7 @@ fn is_arithmetic(operator: COperator) -> bool
     }
 }
 
-fn both_fit(here: &Here<'_>, kind: CKind, first: &CAtom, second: &CAtom) -> bool
+fn both_fit(here: &Here<'_, '_>, kind: CKind, first: &CAtom, second: &CAtom) -> bool
     ensures { result ≡ both_fit (here_view here.now) kind first.now second.now }
 {
     fits(here, kind, first) && fits(here, kind, second)
@@ -173,7 +173,7 @@ fn one_is_name(first: &CAtom, second: &CAtom) -> bool
     is_name_atom(first) || is_name_atom(second)
 }
 
-fn int_operands_fit(here: &Here<'_>, first: &CAtom, operator: COperator, second: &CAtom) -> bool
+fn int_operands_fit(here: &Here<'_, '_>, first: &CAtom, operator: COperator, second: &CAtom) -> bool
     ensures { result ≡ binary_fits (here_view here.now) Int first.now operator second.now }
 {
     both_fit(here, CKind::Int, first, second)
@@ -185,7 +185,7 @@ fn int_operands_fit(here: &Here<'_>, first: &CAtom, operator: COperator, second:
 
 /// Whether an operation has a result of the kind.
 pub fn binary_fits(
-    here: &Here<'_>,
+    here: &Here<'_, '_>,
     kind: CKind,
     first: &CAtom,
     operator: COperator,

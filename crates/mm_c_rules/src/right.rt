@@ -3,18 +3,18 @@
 ghost use Rattle.std.specs.Prelude.{◌≡◌, Some};
 ghost use Rattle.mm_c.specs.WellFormed.{entry_in, kind_of_cell, is_numbers, callable_fits, element_fits, call_fits, result_in, call_result, right_fits};
 ghost use Rattle.mm_c.specs.declared.tree.CExpr.TheVariants.{Index};
-ghost use Rattle.mm_c_rules.specs.Entries.{entry_view, table_of, called_name};
-ghost use Rattle.mm_c_rules.specs.Scopes.{here_view};
+ghost use Rattle.mm_c_names.specs.Entries.{entry_view, table_of};
+ghost use Rattle.mm_c_rules.specs.Scopes.{here_view, called_name};
 
-use crate::entry::{Entry, Params, entry_of};
 use crate::here::Here;
-use crate::names::{kind_number, result_number};
 use crate::operands::{address_fits, all_fit, binary_fits, fits, index_fits, is_index, is_of};
 use mm_base::text::Text;
 use mm_c::tree::{CAtom, CCall, CExpr, CIndex, CKind};
 use mm_c::value::CCell;
+use mm_c_names::entry::{Entry, Params};
+use mm_c_names::names::{kind_number, result_number};
 
-fn callable_fits(here: &Here<'_>, atoms: &[CAtom], entry: &Entry<'_>) -> bool
+fn callable_fits(here: &Here<'_, '_>, atoms: &[CAtom], entry: &Entry<'_>) -> bool
     ensures { result ≡ callable_fits (here_view here.now) atoms.now (Some (entry_view entry.now)) }
 {
     match entry {
@@ -22,12 +22,12 @@ fn callable_fits(here: &Here<'_>, atoms: &[CAtom], entry: &Entry<'_>) -> bool
         Entry::NumbersArray => false,
         Entry::FunctionsArray(_) => false,
         Entry::Callable(head) => {
-            !(head.is_inline && here.inside_inline) && all_fit(here, &head.params, atoms)
+            !(head.is_inline && here.place.inside_inline) && all_fit(here, &head.params, atoms)
         }
     }
 }
 
-fn element_fits(here: &Here<'_>, atoms: &[CAtom], entry: &Entry<'_>) -> bool
+fn element_fits(here: &Here<'_, '_>, atoms: &[CAtom], entry: &Entry<'_>) -> bool
     ensures { result ≡ element_fits (here_view here.now) atoms.now (Some (entry_view entry.now)) }
 {
     match entry {
@@ -41,19 +41,19 @@ fn element_fits(here: &Here<'_>, atoms: &[CAtom], entry: &Entry<'_>) -> bool
 }
 
 /// Whether a call fits where it stands.
-pub fn call_fits(here: &Here<'_>, call: &CCall) -> bool
+pub fn call_fits(here: &Here<'_, '_>, call: &CCall) -> bool
     ensures { result ≡ call_fits (here_view here.now) call.now }
 {
     match call {
-        CCall::Named(name, atoms) => match entry_of(here.before, name.as_bytes()) {
+        CCall::Named(name, atoms) => match here.place.declared.entry_of(name) {
             Some(entry) => callable_fits(here, atoms.as_slice(), &entry),
             None => false,
         },
         CCall::Element(array, index, atoms) => {
-            if here.inside_inline || !is_index(here, index) {
+            if here.place.inside_inline || !is_index(here, index) {
                 return false;
             }
-            match entry_of(here.before, array.as_bytes()) {
+            match here.place.declared.entry_of(array) {
                 Some(entry) => element_fits(here, atoms.as_slice(), &entry),
                 None => false,
             }
@@ -82,10 +82,10 @@ fn called_name(call: &CCall) -> &Text
     }
 }
 
-fn call_result(here: &Here<'_>, call: &CCall) -> u32
+fn call_result(here: &Here<'_, '_>, call: &CCall) -> u32
     ensures { result ≡ call_result (here_view here.now) call.now }
 {
-    match entry_of(here.before, called_name(call).as_bytes()) {
+    match here.place.declared.entry_of(called_name(call)) {
         Some(entry) => result_in(&entry),
         None => 0,
     }
@@ -102,10 +102,10 @@ fn kind_of_cell(cell: CCell) -> Option<CKind>
     }
 }
 
-fn is_numbers_name(here: &Here<'_>, name: &Text) -> bool
-    ensures { result ≡ is_numbers (entry_in (table_of here.now.before.now) name.now) }
+fn is_numbers_name(here: &Here<'_, '_>, name: &Text) -> bool
+    ensures { result ≡ is_numbers (entry_in (table_of here.now.place.declared.now) name.now) }
 {
-    match entry_of(here.before, name.as_bytes()) {
+    match here.place.declared.entry_of(name) {
         None => false,
         Some(Entry::FunctionsType(_)) => false,
         Some(Entry::NumbersArray) => true,
@@ -114,14 +114,14 @@ fn is_numbers_name(here: &Here<'_>, name: &Text) -> bool
     }
 }
 
-fn indexed_fits(here: &Here<'_>, kind: CKind, array: &Text, index: &CIndex) -> bool
+fn indexed_fits(here: &Here<'_, '_>, kind: CKind, array: &Text, index: &CIndex) -> bool
     ensures { result ≡ right_fits (here_view here.now) kind (Index array.now index.now) }
 {
     kind_number(kind) == 3 && is_numbers_name(here, array) && index_fits(here, index)
 }
 
 /// Whether a right side fits where the kind is wanted.
-pub fn right_fits(here: &Here<'_>, kind: CKind, right: &CExpr) -> bool
+pub fn right_fits(here: &Here<'_, '_>, kind: CKind, right: &CExpr) -> bool
     ensures { result ≡ right_fits (here_view here.now) kind right.now }
 {
     match right {

@@ -1,23 +1,26 @@
 // Statements, and what stands inside them.
 
-ghost use Rattle.std.specs.Prelude.{◌≡◌, ◌∷◌, [], not};
+ghost use Rattle.std.specs.Prelude.{◌≡◌, ◌∷◌, [], not, OnOk, IfOk};
 ghost use Rattle.mm_c.specs.View.{stmt_view, block_view, code_view};
-ghost use Rattle.mm_c.specs.WellFormed.{kind_in, assign_fits, is_tag, stored_fits, returned_fits, stmt_breaks, block_breaks, code_breaks};
-ghost use Rattle.mm_c_rules.specs.Scopes.{scope_view, here_view};
+ghost use Rattle.mm_c.specs.WellFormed.{kind_in, assign_fits, is_tag, stored_fits, returned_fits, stmt_fits, stmt_breaks, block_breaks, code_breaks};
+ghost use Rattle.mm_c_rules.specs.Scopes.{here_at, here_view};
 ghost use Rattle.mm_c_rules.specs.Keeps.{keeps, left_of};
+ghost use Rattle.mm_c_rules.specs.Places.{inner};
 
-use crate::here::{Here, Scope, kind_in};
-use crate::names::result_number;
+use crate::here::{Here, Place};
 use crate::operands::{address_fits, fits};
 use crate::right::{call_fits, right_fits};
 use mm_base::text::Text;
 use mm_c::tree::{CAtom, CBlock, CExpr, CKind, CStmt};
 use mm_c::value::CCell;
+use mm_c_names::names::result_number;
+use mm_c_names::scope::Scope;
+use std::alloc::AllocError;
 
-fn assign_fits(here: &Here<'_>, name: &Text, right: &CExpr) -> bool
-    ensures { result ≡ assign_fits (here_view here.now) (kind_in (scope_view here.now.scope.now) name.now) right.now }
+fn assign_fits(here: &Here<'_, '_>, name: &Text, right: &CExpr) -> bool
+    ensures { result ≡ assign_fits (here_view here.now) (kind_in here.now.scope.now name.now) right.now }
 {
-    match kind_in(here.scope, name.as_bytes()) {
+    match here.scope.kind_in(name) {
         Some(kind) => right_fits(here, kind, right),
         None => false,
     }
@@ -34,7 +37,7 @@ fn is_tag(atom: &CAtom) -> bool
     }
 }
 
-fn stored_fits(here: &Here<'_>, cell: CCell, atom: &CAtom) -> bool
+fn stored_fits(here: &Here<'_, '_>, cell: CCell, atom: &CAtom) -> bool
     ensures { result ≡ stored_fits (here_view here.now) cell atom.now }
 {
     match cell {
@@ -45,18 +48,39 @@ fn stored_fits(here: &Here<'_>, cell: CCell, atom: &CAtom) -> bool
     }
 }
 
-fn returned_fits(here: &Here<'_>, atom: &CAtom) -> bool
-    ensures { result ≡ returned_fits (here_view here.now) here.now.result atom.now }
+fn returned_fits(here: &Here<'_, '_>, atom: &CAtom) -> bool
+    ensures { result ≡ returned_fits (here_view here.now) here.now.place.result atom.now }
 {
-    match here.result {
+    match here.place.result {
         Some(kind) => fits(here, kind, atom),
         None => false,
     }
 }
 
+// a statement by itself
+#[tactic(auto, using(crate::proofs::Rules::view_rules))]
+fn stmt_fits(stmt: &CStmt, here: &Here<'_, '_>) -> bool
+    ensures { result ≡ stmt_fits (here_view here.now) (stmt_view stmt.now) }
+{
+    match stmt {
+        CStmt::Assign(name, right) => assign_fits(here, name, right),
+        CStmt::Store(cell, address, atom) => {
+            address_fits(here, address) && stored_fits(here, *cell, atom)
+        }
+        CStmt::Call(call) => call_fits(here, call),
+        CStmt::If(atom, _) => fits(here, CKind::Int, atom),
+        CStmt::IfElse(atom, _, _) => fits(here, CKind::Int, atom),
+        CStmt::While(_) => !here.place.inside_inline,
+        CStmt::Break => here.place.in_loop,
+        CStmt::Continue => here.place.in_loop,
+        CStmt::Return => result_number(here.place.result) == 0,
+        CStmt::ReturnValue(atom) => returned_fits(here, atom),
+    }
+}
+
 /// Counts one that keeps its rule off what is left.
 pub fn counted(keeps_it: bool, left: &mut usize) -> bool
-    ensures keeps { result ≡ keeps (not keeps_it ∷ []) }
+    ensures keeps { result ≡ keeps_it }
     ensures left { left.new ≡ left_of left.old (not keeps_it ∷ []) }
 {
     if keeps_it {
@@ -68,62 +92,97 @@ pub fn counted(keeps_it: bool, left: &mut usize) -> bool
 /// Whether a statement and those inside it keep the rules. One is taken off `left` for each that
 /// stands before the first that doesn't.
 #[cycle(stmt_keeps)]
-pub fn stmt_keeps(stmt: &CStmt, here: &Here<'_>, left: &mut usize) -> bool
-    ensures keeps { result ≡ keeps (stmt_breaks (here_view here.now) (stmt_view stmt.now)) }
-    ensures left { left.new ≡ left_of left.old (stmt_breaks (here_view here.now) (stmt_view stmt.now)) }
+pub fn stmt_keeps<'a>(
+    stmt: &'a CStmt,
+    place: &Place<'_, 'a>,
+    scope: &mut Scope<'a>,
+    left: &mut usize,
+) -> Result<bool, AllocError>
+    ensures keeps { IfOk result (λ b. b ≡ keeps (stmt_breaks (here_at place.now scope.old) (stmt_view stmt.now))) }
+    ensures left { OnOk result (left.new ≡ left_of left.old (stmt_breaks (here_at place.now scope.old) (stmt_view stmt.now))) }
+    ensures scope { OnOk result (scope.new ≡ scope.old) }
+{
+    let here = Here {
+        place: *place,
+        scope: &*scope,
+    };
+    if !counted(stmt_fits(stmt, &here), left) {
+        return Ok(false);
+    }
+    inner_keeps(stmt, place, scope, left)
+}
+
+// the statements inside a statement
+#[cycle(stmt_keeps)]
+fn inner_keeps<'a>(
+    stmt: &'a CStmt,
+    place: &Place<'_, 'a>,
+    scope: &mut Scope<'a>,
+    left: &mut usize,
+) -> Result<bool, AllocError>
+    ensures keeps { IfOk result (λ b. b ≡ keeps (inner (here_at place.now scope.old) (stmt_view stmt.now))) }
+    ensures left { OnOk result (left.new ≡ left_of left.old (inner (here_at place.now scope.old) (stmt_view stmt.now))) }
+    ensures scope { OnOk result (scope.new ≡ scope.old) }
 {
     match stmt {
-        CStmt::Assign(name, right) => counted(assign_fits(here, name, right), left),
-        CStmt::Store(cell, address, atom) => {
-            let fits = address_fits(here, address) && stored_fits(here, *cell, atom);
-            counted(fits, left)
-        }
-        CStmt::Call(call) => counted(call_fits(here, call), left),
-        CStmt::If(atom, block) => {
-            counted(fits(here, CKind::Int, atom), left) && block_keeps(block, here, left)
-        }
-        CStmt::IfElse(atom, block, other) => {
-            counted(fits(here, CKind::Int, atom), left)
-                && block_keeps(block, here, left)
-                && block_keeps(other, here, left)
+        CStmt::Assign(_, _) => Ok(true),
+        CStmt::Store(_, _, _) => Ok(true),
+        CStmt::Call(_) => Ok(true),
+        CStmt::If(_, block) => block_keeps(block, place, scope, left),
+        CStmt::IfElse(_, block, other) => {
+            if !block_keeps(block, place, scope, left)? {
+                return Ok(false);
+            }
+            block_keeps(other, place, scope, left)
         }
         CStmt::While(block) => {
-            let inner = Here {
+            let inside = Place {
                 in_loop: true,
-                ..*here
+                ..*place
             };
-            counted(!here.inside_inline, left) && block_keeps(block, &inner, left)
+            block_keeps(block, &inside, scope, left)
         }
-        CStmt::Break => counted(here.in_loop, left),
-        CStmt::Continue => counted(here.in_loop, left),
-        CStmt::Return => counted(result_number(here.result) == 0, left),
-        CStmt::ReturnValue(atom) => counted(returned_fits(here, atom), left),
+        CStmt::Break => Ok(true),
+        CStmt::Continue => Ok(true),
+        CStmt::Return => Ok(true),
+        CStmt::ReturnValue(_) => Ok(true),
     }
 }
 
 /// The same of a block.
 #[cycle(stmt_keeps)]
-pub fn block_keeps(block: &CBlock, here: &Here<'_>, left: &mut usize) -> bool
-    ensures keeps { result ≡ keeps (block_breaks (here_view here.now) (block_view block.now)) }
-    ensures left { left.new ≡ left_of left.old (block_breaks (here_view here.now) (block_view block.now)) }
+pub fn block_keeps<'a>(
+    block: &'a CBlock,
+    place: &Place<'_, 'a>,
+    scope: &mut Scope<'a>,
+    left: &mut usize,
+) -> Result<bool, AllocError>
+    ensures keeps { IfOk result (λ b. b ≡ keeps (block_breaks (here_at place.now scope.old) (block_view block.now))) }
+    ensures left { OnOk result (left.new ≡ left_of left.old (block_breaks (here_at place.now scope.old) (block_view block.now))) }
+    ensures scope { OnOk result (scope.new ≡ scope.old) }
 {
-    let scope = Scope::Block(block.locals.as_slice(), here.scope);
-    let inner = Here {
-        scope: &scope,
-        ..*here
-    };
-    code_keeps(block.body.as_slice(), &inner, left)
+    let locals = block.locals.as_slice();
+    scope.enter(locals)?;
+    let keeps = code_keeps(block.body.as_slice(), place, scope, left)?;
+    scope.leave(locals.len())?;
+    Ok(keeps)
 }
 
 #[cycle(stmt_keeps)]
-fn code_keeps(stmts: &[CStmt], here: &Here<'_>, left: &mut usize) -> bool
-    ensures keeps { result ≡ keeps (code_breaks (here_view here.now) (code_view stmts.now)) }
-    ensures left { left.new ≡ left_of left.old (code_breaks (here_view here.now) (code_view stmts.now)) }
+fn code_keeps<'a>(
+    stmts: &'a [CStmt],
+    place: &Place<'_, 'a>,
+    scope: &mut Scope<'a>,
+    left: &mut usize,
+) -> Result<bool, AllocError>
+    ensures keeps { IfOk result (λ b. b ≡ keeps (code_breaks (here_at place.now scope.old) (code_view stmts.now))) }
+    ensures left { OnOk result (left.new ≡ left_of left.old (code_breaks (here_at place.now scope.old) (code_view stmts.now))) }
+    ensures scope { OnOk result (scope.new ≡ scope.old) }
 {
     for stmt in stmts {
-        if !stmt_keeps(stmt, here, left) {
-            return false;
+        if !stmt_keeps(stmt, place, scope, left)? {
+            return Ok(false);
         }
     }
-    true
+    Ok(true)
 }

@@ -1,5 +1,6 @@
 pub mod Blocks
 pub mod Built
+pub mod Decls
 pub mod Exprs
 pub mod Marks
 pub mod Stmts

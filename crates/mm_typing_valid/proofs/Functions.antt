@@ -1,6 +1,6 @@
 -- Lists of functions, and functions that are the same but for their bodies.
 use Rattle.std.proofs.Common.{◌≡◌, ℕ, zero, suc, ◌+◌, ◌<◌, ◌≤◌, List, [], ◌∷◌, ◌++◌, length, map, refl, sym, subst, ap, ◌∙◌, inl, inr, arith}
-use Rattle.std.specs.Prelude.{Bool, true, false, not, ◌&&◌, ◌||◌, ◌⊎◌, IsTrue, if◌then◌else◌, Some, slice_get, get_or, AllPairs}
+use Rattle.std.specs.Prelude.{Bool, true, false, not, ◌&&◌, ◌||◌, ◌⊎◌, IsTrue, if◌then◌else◌, Some, is_some, slice_get, get_or, AllPairs}
 use Rattle.std.specs.List.{list_any, position_or_len}
 use Rattle.std.specs.Str.{bytes_eq}
 use Rattle.std.proofs.lemmas.Slice.Eq.{bytes_eq-Decides}
@@ -20,7 +20,7 @@ use Rattle.mm_core.proofs.Returning.{same_is}
 use Rattle.mm_scopes.specs.declared.head.FnHead.{FnHead}
 use Rattle.mm_syntax.specs.declared.name.Name.{Name}
 use Rattle.mm_unit_typing.specs.Declarators.{is_reserved}
-use Rattle.mm_unit_typing.specs.Functions.{Heading, is_function, clashes, may_declare, core_param, declared_function, with_function, defined_with, with_body, never, head_of, heads_from}
+use Rattle.mm_unit_typing.specs.Functions.{Heading, is_function, number_of, known, agrees, may_declare, core_param, declared_function, with_function, defined_with, with_body, never, head_of, heads_from}
 use Rattle.mm_typing_valid.specs.Seen.{IsPlain, ArePlain, IsHeadOf}
 use Rattle.mm_typing_valid.proofs.Conversions.{arithmetic_plain}
 use Rattle.mm_typing_valid.proofs.Variables.{AllArithmetic}
@@ -88,6 +88,16 @@ at_number p (x ∷ fs) e = by (p x) refl (λ h. at_number p fs (rw h at e)) wher
       let one : 1 + position_or_len p fs ≡ suc (position_or_len p fs) = omega arith in
       (r.0, (rw (h, one) r.1), r.2)
 
+-- the first that passes is there where some does
+some_known : (p : k.Function → Bool) (fs : List k.Function) → is_some (slice_get fs (position_or_len p fs)) ≡ list_any p fs
+some_known p [] = refl
+some_known p (x ∷ fs) = by (p x) refl (some_known p fs) where
+  by : (b : Bool) → p x ≡ b → is_some (slice_get fs (position_or_len p fs)) ≡ list_any p fs → is_some (slice_get (x ∷ fs) (position_or_len p (x ∷ fs))) ≡ list_any p (x ∷ fs)
+  by true h rest = rw h refl
+  by false h rest =
+      let one : 1 + position_or_len p fs ≡ suc (position_or_len p fs) = omega arith in
+      rw (h, one) rest
+
 any_false : (p : k.Function → Bool) (fs : List k.Function) (f : k.Function) → list_any p fs ≡ false → Has fs f → p f ≡ false
 any_false p [] f e m = elim m [ ]
 any_false p (x ∷ fs) f e m = elim m [
@@ -114,22 +124,17 @@ is_this name h = both (bytes_eq name.text name.text) (same_types (types_of_param
 
 -- after a declaration the function is there
 pub is_there : (fs : List k.Function) (name : Name) (h : Heading) → list_any (is_function name.text h.params) (with_function fs name h) ≡ true
-is_there fs name h = by (list_any (is_function name.text h.params) fs) refl where
+is_there fs name h = by (is_some (known fs name.text h.params)) (sym (some_known (is_function name.text h.params) fs)) where
   by : (b : Bool) → list_any (is_function name.text h.params) fs ≡ b → list_any (is_function name.text h.params) (if b then fs else fs ++ declared_function name h ∷ []) ≡ true
   by true e = e
   by false e = list_any-append (is_function name.text h.params) fs (declared_function name h ∷ []) ∙ rw (e, is_this name h) refl
 
 -- a function that is declared again has the same result
-pub same_result : (fs : List k.Function) (name : List ℕ) (h : Heading) (d : Bool) (f : k.Function) → may_declare fs name h d ≡ true → Has fs f → is_function name h.params f ≡ true → f.result ≡ h.result
-same_result fs name h d f e m i = same_is f.result h.result (by (is_function name h.params f) (same_type f.result h.result) (d && f.defined) i (any_false (clashes name h d) fs f (no (list_any (clashes name h d) fs) e) m)) where
-  no : (b : Bool) → not b ≡ true → b ≡ false
-  no true e = cc
-  no false e = refl
-
-  by : (b c d : Bool) → b ≡ true → (b && (not c || d)) ≡ false → c ≡ true
-  by true true d e n = refl
-  by true false d e n = cc
-  by false c d e n = cc
+pub same_result : (fs : List k.Function) (name : List ℕ) (h : Heading) (d : Bool) (f : k.Function) → may_declare fs name h d ≡ true → known fs name h.params ≡ Some f → f.result ≡ h.result
+same_result fs name h d f e is = same_is f.result h.result (by (same_type f.result h.result) (not (d && f.defined)) (sym (ap (agrees h.result d) is) ∙ e)) where
+  by : (b c : Bool) → (b && c) ≡ true → b ≡ true
+  by true c n = refl
+  by false c n = cc
 
 -- ---- what is seen of the functions
 
@@ -196,13 +201,23 @@ declared_fine name h p f l y = record {
 
 -- a function that is declared is one of those before, or new
 pub from_declared : (fs : List k.Function) (name : Name) (h : Heading) (f : k.Function) → Has (with_function fs name h) f → Has fs f ⊎ (declared_function name h ≡ f)
-from_declared fs name h f m = by (list_any (is_function name.text h.params) fs) m where
+from_declared fs name h f m = by (is_some (known fs name.text h.params)) m where
   by : (b : Bool) → Has (if b then fs else fs ++ declared_function name h ∷ []) f → Has fs f ⊎ (declared_function name h ≡ f)
   by true m = inl m
   by false m = elim (Has-append fs (declared_function name h ∷ []) m) [ inl k ↦ inl k | inr k ↦ elim k [ first e ↦ inr e | later n ↦ elim n [ ] ] ]
 
+-- the function that is declared so afterwards has the result that the head says
+pub result_known : (fs : List k.Function) (name : Name) (h : Heading) (d : Bool) (g : k.Function) → may_declare fs name.text h d ≡ true → known (with_function fs name h) name.text h.params ≡ Some g → is_function name.text h.params g ≡ true → g.result ≡ h.result
+result_known fs name h d g e is that = by (is_some (known fs name.text h.params)) (sym (some_known (is_function name.text h.params) fs)) is where
+  by : (b : Bool) → list_any (is_function name.text h.params) fs ≡ b → known (if b then fs else fs ++ declared_function name h ∷ []) name.text h.params ≡ Some g → g.result ≡ h.result
+  by true n is = same_result fs name.text h d g e is
+  by false n is = elim (Has-append fs (declared_function name h ∷ []) (slice-Has (fs ++ declared_function name h ∷ []) (number_of (fs ++ declared_function name h ∷ []) name.text h.params) g is)) [
+    | inl m ↦ absurd (let z : true ≡ false = sym that ∙ any_false (is_function name.text h.params) fs g n m in cc)
+    | inr m ↦ elim m [ first is_new ↦ ap (λ (f : k.Function). f.result) (sym is_new) | later n ↦ elim n [ ] ]
+  ]
+
 pub extends_declared : (fs : List k.Function) (name : Name) (h : Heading) → Extends fs (with_function fs name h)
-extends_declared fs name h = by (list_any (is_function name.text h.params) fs) where
+extends_declared fs name h = by (is_some (known fs name.text h.params)) where
   by : (b : Bool) → Extends fs (if b then fs else fs ++ declared_function name h ∷ [])
   by true = extends_itself fs
   by false = extends_more fs (declared_function name h ∷ [])
@@ -216,7 +231,7 @@ other_than fs name h f e n c = absurd (let z : is_function name.text h.params f 
     both b c e f = rw (e, f) refl
 
 pub declared_apart : (fs : List k.Function) (name : Name) (h : Heading) → AllPairs AreApart fs → AllPairs AreApart (with_function fs name h)
-declared_apart fs name h a = by (list_any (is_function name.text h.params) fs) refl where
+declared_apart fs name h a = by (is_some (known fs name.text h.params)) (sym (some_known (is_function name.text h.params) fs)) where
   by : (b : Bool) → list_any (is_function name.text h.params) fs ≡ b → AllPairs AreApart (if b then fs else fs ++ declared_function name h ∷ [])
   by true e = a
   by false e = all_pairs_push AreApart fs (declared_function name h) a (λ i d l. other_than fs name h (get_or fs i d) (any_false (is_function name.text h.params) fs (get_or fs i d) e (slice-Has fs i (get_or fs i d) (slice_get-get_or fs i d l))))

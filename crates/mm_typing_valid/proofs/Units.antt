@@ -17,7 +17,7 @@ use Rattle.mm_syntax.specs.declared.decl.Head.{Head}
 use Rattle.mm_syntax.specs.Tree as syntax
 use Rattle.mm_unit_typing.specs.Scopes.{parameters_from}
 use Rattle.mm_unit_typing.specs.Made.{Made, block_of}
-use Rattle.mm_unit_typing.specs.Functions.{Heading, ParamsType, is_function, number_of, with_function, defined_with, with_body, seen}
+use Rattle.mm_unit_typing.specs.Functions.{Heading, ParamsType, is_function, number_of, known, with_function, defined_with, with_body, seen}
 use Rattle.mm_unit_typing.specs.Units.{body_here, BodyTypes, FunctionTypes, DeclsType, UnitTypes}
 use Rattle.mm_typing_valid.specs.Numbers.{StmtInRange, FunctionInRange, DeclsInRange}
 use Rattle.mm_typing_valid.specs.Statements.{Begins, AreValidAt}
@@ -27,7 +27,7 @@ use Rattle.mm_typing_valid.proofs.Locals.{itself, further, stmt_extends}
 use Rattle.mm_typing_valid.proofs.Statements.{stmts_valid, typed_stmt_is_valid}
 use Rattle.mm_typing_valid.proofs.Variables.{stmt_types}
 use Rattle.mm_typing_valid.proofs.Heads.{params_arithmetic, params_vars, IsHeading, head_says}
-use Rattle.mm_typing_valid.proofs.Functions.{Extends, extends_itself, extends_then, extends_body, extends_declared, from_body, from_declared, at_number, is_there, same_result, IsFine, arguments_are, seen_heads, declared_fine, declared_apart, body_apart}
+use Rattle.mm_typing_valid.proofs.Functions.{Extends, extends_itself, extends_then, extends_body, extends_declared, from_body, from_declared, at_number, is_there, result_known, IsFine, arguments_are, seen_heads, declared_fine, declared_apart, body_apart}
 
 abbrev pub program_of : List k.Function → k.Program
 program_of fs = record { classes = []; functions = fs }
@@ -62,12 +62,6 @@ with_declared fs d x h ok head = record {
   ];
   apart = declared_apart fs x.name h ok.apart;
 }
-
-result_after : (fs : List k.Function) (d : Bool) (x : Head) (h : Heading) → IsHeading fs d x h → (f : k.Function) → Has (with_function fs x.name h) f → is_function x.name.text h.params f ≡ true → f.result ≡ h.result
-result_after fs d x h head f m i = elim (from_declared fs x.name h f m) [
-  | inl n ↦ same_result fs x.name.text h d f head.new n i
-  | inr e ↦ ap (λ (g : k.Function). g.result) (sym e)
-]
 
 -- ---- a definition
 
@@ -114,7 +108,7 @@ module _ (fs : List k.Function) (x : Head) (h : Heading) (body : syntax.Stmt) (b
         valid = typed_stmt_is_valid a (seen fs) (seen_heads a fs refl (λ f. refl) e ok.fine) (body_here x h) (parameters_from 0 x.params.list) h.params body b
             (params_vars (seen fs) a [] x.params.list h.params [] typed (further h.params b.locals a.locals begins all)) range all types
 
-  with_defined : list_any (is_function x.name.text h.params) fs ≡ true → ((f : k.Function) → Has fs f → is_function x.name.text h.params f ≡ true → f.result ≡ h.result) → AreFine after
+  with_defined : list_any (is_function x.name.text h.params) fs ≡ true → ((g : k.Function) → known fs x.name.text h.params ≡ Some g → is_function x.name.text h.params g ≡ true → g.result ≡ h.result) → AreFine after
   with_defined there results = record {
     fine = λ f m. elim (from_body fs number variables (block_of b.tree) f m) [
       | inl n ↦ ok.fine f n
@@ -122,7 +116,7 @@ module _ (fs : List k.Function) (x : Head) (h : Heading) (body : syntax.Stmt) (b
     ];
     bodies = λ final e f m. elim (from_body fs number variables (block_of b.tree) f m) [
       | inl n ↦ ok.bodies final (before final e) f n
-      | inr n ↦ subst (BodyIn final) n.2 (body_is final n.0 (before final e) (ok.fine n.0 (slice-Has fs number n.0 n.1)).outside (params_are_of n.0 n.1) (results n.0 (slice-Has fs number n.0 n.1) (is_that n.0 n.1)))
+      | inr n ↦ subst (BodyIn final) n.2 (body_is final n.0 (before final e) (ok.fine n.0 (slice-Has fs number n.0 n.1)).outside (params_are_of n.0 n.1) (results n.0 n.1 (is_that n.0 n.1)))
     ];
     apart = body_apart fs number variables (block_of b.tree) ok.apart;
   } where
@@ -158,7 +152,7 @@ function_fine fs (syntax.declaration p x) v r ok h = subst AreFine h.2 (with_dec
 function_fine fs (syntax.definition p x body) v r ok h =
     let head = head_says fs true x h.0 h.1 in
     subst AreFine h.2.2 (with_defined (with_function fs x.name h.0) x h.0 body h.2.0 (with_declared fs true x h.0 ok head) head.params h.2.1 r
-    (is_there fs x.name h.0) (result_after fs true x h.0 head))
+    (is_there fs x.name h.0) (λ g is that. result_known fs x.name h.0 true g head.new is that))
 function_fine fs (syntax.member_definition p class x body) v r ok h = absurd h
 function_fine fs (syntax.constructor_definition p class word params body) v r ok h = absurd h
 function_fine fs (syntax.method p at x body) v r ok h = absurd h

@@ -1,7 +1,7 @@
 -- The functions of a unit, and what their heads are asked. (ISO/IEC 14882:1998, 3.3.1, 8.3.5, 8.4 and 13.1. Own: a
 -- head has at most 32 parameters; the faults of its parameters count first, then its own by their codes.)
-use Rattle.std.specs.Prelude.{◌≡◌, ℕ, zero, suc, ◌+◌, Bool, true, false, not, ◌&&◌, ◌||◌, if◌then◌else◌, nat_lt, List, [], ◌∷◌, ◌++◌, length, map, Option, Some, None}
-use Rattle.std.specs.List.{list_any, position_or_len}
+use Rattle.std.specs.Prelude.{◌≡◌, ℕ, zero, suc, ◌+◌, Bool, true, false, not, ◌&&◌, if◌then◌else◌, nat_lt, is_some, slice_get, List, [], ◌∷◌, ◌++◌, length, map, Option, Some, None}
+use Rattle.std.specs.List.{position_or_len}
 use Rattle.std.specs.Str.{bytes_eq}
 use Rattle.mm_base.specs.declared.place.Place.{Place}
 use Rattle.mm_base.specs.declared.code.TheConstants.Code.{S12, S20}
@@ -88,16 +88,21 @@ ParamsFault n vs (q ∷ qs) =
 abbrev pub is_function : List ℕ → List Ty → k.Function → Bool
 is_function name params f = bytes_eq f.name name && same_types (types_of_params f.params) params
 
--- a declaration after another may not differ in the result, and only one defines the function
-abbrev pub clashes : List ℕ → Heading → Bool → k.Function → Bool
-clashes name h defines f = is_function name h.params f && (not (same_type f.result h.result) || (defines && f.defined))
-
-abbrev pub may_declare : List k.Function → List ℕ → Heading → Bool → Bool
-may_declare fs name h defines = not (list_any (clashes name h defines) fs)
-
 -- the first that is declared so, or else how many there are: the number that such a function has, or gets
 abbrev pub number_of : List k.Function → List ℕ → List Ty → ℕ
 number_of fs name params = position_or_len (is_function name params) fs
+
+-- the function that is declared so
+abbrev pub known : List k.Function → List ℕ → List Ty → Option k.Function
+known fs name params = slice_get fs (number_of fs name params)
+
+-- a declaration after another may not differ in the result, and only one defines the function
+abbrev pub agrees : Ty → Bool → Option k.Function → Bool
+agrees result defines None = true
+agrees result defines (Some f) = same_type f.result result && not (defines && f.defined)
+
+abbrev pub may_declare : List k.Function → List ℕ → Heading → Bool → Bool
+may_declare fs name h defines = agrees h.result defines (known fs name h.params)
 
 abbrev pub core_param : Ty → CoreParam
 core_param t = record { ty = t; is_virtual = false }
@@ -118,7 +123,7 @@ declared_function name h = record {
 -- with a function that is declared here, where it was not before
 abbrev pub with_function : List k.Function → Name → Heading → List k.Function
 with_function fs name h =
-    if list_any (is_function name.text h.params) fs then fs else fs ++ declared_function name h ∷ []
+    if is_some (known fs name.text h.params) then fs else fs ++ declared_function name h ∷ []
 
 -- the function gets its variables and its body
 abbrev pub defined_with : List Ty → k.Stmt → k.Function → k.Function

@@ -2,7 +2,7 @@ use Rattle.std.specs.Prelude.{◌&&◌}
 use Rattle.std.proofs.Common.{◌+◌, drop, sym, ap, ◌∙◌}
 use Rattle.std.proofs.lemmas.Option.{get_or_from_slice_get}
 use Rattle.mm_c.specs.WellFormed.{same_kinds}
-use Rattle.mm_c_rules.specs.Entries.{params_view}
+use Rattle.mm_c_names.specs.Entries.{params_view}
 use Rattle.mm_c_rules.proofs.Pairs.{kinds_more, kinds_short, within_more}
 use Rattle.mm_c_rules.proofs.items.same_kinds.Goals as goal
 

@@ -1,6 +1,6 @@
 use Rattle.std.proofs.Common.{◌≡◌, ◌≤◌, length, drop}
 use Rattle.mm_c.specs.WellFormed.{same_kinds}
-use Rattle.mm_c_rules.specs.Entries.{params_view}
+use Rattle.mm_c_names.specs.Entries.{params_view}
 use Rattle.mm_c_rules.proofs.items.same_kinds.Given as goal
 
 abbrev pub invariant-loop-i : goal.invariant-loop-i

@@ -2,7 +2,7 @@ use Rattle.std.specs.Prelude.{◌&&◌}
 use Rattle.std.proofs.Common.{◌+◌, drop, sym, ap, ◌∙◌, arith}
 use Rattle.std.proofs.lemmas.Option.{slice_get_within}
 use Rattle.mm_c.specs.WellFormed.{all_fit}
-use Rattle.mm_c_rules.specs.Entries.{params_view}
+use Rattle.mm_c_names.specs.Entries.{params_view}
 use Rattle.mm_c_rules.specs.Scopes.{here_view}
 use Rattle.mm_c_rules.proofs.Arguments.{fit_more, fit_short}
 use Rattle.mm_c_rules.proofs.operands.all_fit.Goals as goal

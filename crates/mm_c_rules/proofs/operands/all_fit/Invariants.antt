@@ -1,6 +1,6 @@
 use Rattle.std.proofs.Common.{◌≡◌, ◌≤◌, length, drop}
 use Rattle.mm_c.specs.WellFormed.{all_fit}
-use Rattle.mm_c_rules.specs.Entries.{params_view}
+use Rattle.mm_c_names.specs.Entries.{params_view}
 use Rattle.mm_c_rules.specs.Scopes.{here_view}
 use Rattle.mm_c_rules.proofs.operands.all_fit.Given as goal
 
