@@ -144,13 +144,15 @@ seconds() {
     "$@" >"$work/out"
     date +%s.%N | awk -v start="$start" '{ print $1 - start }'
 }
-"$top/mmc" exec "$work/deep.c" >/dev/null
+steps=1000000000
+"$top/mmc" exec --steps "$steps" "$work/deep.c" >/dev/null
 for name in loop fib sieve list; do
     plain=$(seconds "$work/interpreter" "$work/$name.c")
     cp "$work/out" "$work/wanted"
-    ours=$(seconds "$top/mmc" exec "$work/$name.c")
+    ours=$(seconds "$top/mmc" exec --steps "$steps" "$work/$name.c")
     cmp "$work/out" "$work/wanted"
     ratio=$(awk -v a="$plain" -v b="$ours" 'BEGIN { print b / a }')
     echo "$name: interpreter $plain s, mmc $ours s, ratio $ratio (puts $(cat "$work/out"))"
 done
-/usr/bin/time -f 'a recursion 10^6 deep: most memory %M KB, %e s' "$top/mmc" exec "$work/deep.c" >/dev/null
+/usr/bin/time -f 'a recursion 10^6 deep: most memory %M KB, %e s' "$top/mmc" exec --steps "$steps" \
+    "$work/deep.c" >/dev/null

@@ -1,6 +1,7 @@
-// ./mmc link examples/gcd.cc
-// > examples/gcd.cc:5:10: N0
-// The greatest common divisor of the two numbers of the input. Variables and loops aren't built yet.
+// printf '252\n105\n' | ./mmc run examples/gcd.cc
+// > 21
+// > result 0
+// The greatest common divisor of the two numbers of the input.
 int gcd(int a, int b) {
   while (b != 0) {
     int rest = a % b;

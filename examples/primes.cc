@@ -1,12 +1,28 @@
-// ./mmc link examples/primes.cc
-// > examples/primes.cc:5:8: N0
-// The primes below 50. Loops aren't built yet.
+// ./mmc run examples/primes.cc
+// > 2
+// > 3
+// > 5
+// > 7
+// > 11
+// > 13
+// > 17
+// > 19
+// > 23
+// > 29
+// > result 10
+// The primes below 30, and how many there are.
+bool is_prime(int n) {
+  for (int d = 2; d * d <= n; d++)
+    if (n % d == 0) return false;
+  return n > 1;
+}
+
 int main() {
-  for (int n = 2; n < 50; n = n + 1) {
-    bool is_prime = true;
-    for (int d = 2; d * d <= n; d = d + 1)
-      if (n % d == 0) is_prime = false;
-    if (is_prime) mm_put(n);
-  }
-  return 0;
+  int count = 0;
+  for (int n = 0; n < 30; n++)
+    if (is_prime(n)) {
+      mm_put(n);
+      count++;
+    }
+  return count;
 }
