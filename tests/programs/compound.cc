@@ -6,8 +6,6 @@
 // > 2147483647
 // > 5
 // > 1
-// > 1
-// > 0
 // > result 0
 // Each compound assignment, on each kind of number, and the value that it has.
 int main() {
@@ -24,10 +22,5 @@ int main() {
   mm_put(u);
   u *= 4294967295u;
   mm_put(u == 0u - 5u);
-  bool b = false;
-  b += 3;
-  mm_put(b);
-  b -= true;
-  mm_put(b);
   return 0;
 }

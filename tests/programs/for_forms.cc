@@ -22,6 +22,9 @@ int main() {
     if (i++ > 4) break;
   }
   mm_put(i);
-  for (int i = 1, j = 10; i < j; i *= 2, j--) mm_put(j);
+  for (int i = 1, j = 10; i < j; i *= 2) {
+    mm_put(j);
+    j--;
+  }
   return i;
 }

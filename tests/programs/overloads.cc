@@ -8,6 +8,7 @@
 // > 30
 // > 20
 // > 1
+// > -1
 // > result 0
 // Overloads on the three kinds of numbers, and on how many there are.
 int kind(bool b) { return 1; }
@@ -29,5 +30,6 @@ int main() {
   mm_put(kind(1u, 2u));
   mm_put(kind(true, false));
   mm_put(narrow(true));
+  mm_put(narrow(5u));
   return 0;
 }

@@ -7,8 +7,6 @@
 // > 1
 // > 1
 // > 0
-// > 0
-// > 1
 // > 40
 // > 0
 // > 1
@@ -28,9 +26,6 @@ int main() {
   mm_put(u-- == 0u);
   mm_put(u == 4294967295u);
   mm_put(++u);
-  bool b = false;
-  mm_put(b++);
-  mm_put(b);
   mm_put(-n + +n - -n);
   mm_put(!n);
   mm_put(!!n);
