@@ -10,7 +10,7 @@ trap 'rm -rf "$work"' EXIT
 # functions up to a size; with a `main` that calls the last of them, where one is asked for
 unit() {
     awk -v size="$1" -v kind="$2" -v with_main="$3" 'BEGIN {
-        if (kind == "variables") { printf "int f0() {\n"; left = size - 40 }
+        if (kind == "variables") { printf "int f0() {\n"; left = size - 60 }
         else left = size - 60
         for (i = 0; left > 0; i++) {
             if (kind == "variables") piece = sprintf("int v%d = %d;\n", i, i % 9)
