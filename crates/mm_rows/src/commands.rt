@@ -106,7 +106,9 @@ fn come_of(alloc: Global, row: &Row) -> Result<Outcome, AllocError> {
 fn again(alloc: Global, row: &Row) -> Result<Outcome, AllocError> {
     let linked = command(alloc, &["link", "m.cc"], "m.cc", row.text.as_bytes(), &[])?;
     let mut words = Vec::from_slice(alloc, &["exec", "x.c"])?;
-    words.extend_from_slice(&row.words[2..])?;
+    if let [_, _, rest @ ..] = row.words {
+        words.extend_from_slice(rest)?;
+    }
     command(
         alloc,
         words.as_slice(),
