@@ -1,5 +1,5 @@
 -- What is answered, by what a command comes to and how that is written.
-use Rattle.std.proofs.Common.{◌≡◌, ◌⊎◌, ℕ, ◌+◌, ◌<◌, ◌≤◌, List, [], length, Option, refl, sym, ap, ◌∙◌, subst, inl, inr, arith}
+use Rattle.std.proofs.Common.{◌≡◌, ℕ, List, [], length, Option, sym, ap, ◌∙◌, subst, inl, inr, arith}
 use Rattle.std.proofs.lemmas.List.{take_all}
 use Rattle.mm_base.specs.Outside.{SinkSeen, grown}
 use Rattle.mm_base.proofs.Grown.{grown_nil}
