@@ -1,15 +1,15 @@
 #!/bin/sh
 # Checks and links units of 2^19 and 2^20 bytes of functions, and prints the times, their ratios, those
-# of `g++ -fsyntax-only` on the same texts, and how many bytes of C a byte of the unit becomes. A unit
-# without `main` is refused by P5 once it is checked: that is the time of checking. Nothing is asserted.
+# of `g++ -fsyntax-only` on the same texts, and how many bytes of C a byte of the unit becomes. Nothing
+# is asserted.
 set -eu
 top=$(cd "$(dirname "$0")/.." && pwd)
 work=$(mktemp -d)
 trap 'rm -rf "$work"' EXIT
-"$top/mmc" link "$top/examples/sum.cc" >/dev/null
-# functions up to a size; with a `main` that calls the last of them, where one is asked for
+"$top/mmc" check "$top/examples/sum.cc" >/dev/null
+# functions up to a size, and a `main` that calls the last of them
 unit() {
-    awk -v size="$1" -v kind="$2" -v with_main="$3" 'BEGIN {
+    awk -v size="$1" -v kind="$2" 'BEGIN {
         if (kind == "variables") { printf "int f0() {\n"; left = size - 60 }
         else left = size - 60
         for (i = 0; left > 0; i++) {
@@ -20,7 +20,7 @@ unit() {
             if (left > 0) { printf "%s", piece; last = i }
         }
         if (kind == "variables") printf "return v%d;\n}\n", last
-        if (with_main) printf "int main() { return %s; }\n", kind == "variables" ? "f0()" : "f" last "(1, 2u)"
+        printf "int main() { return %s; }\n", kind == "variables" ? "f0()" : "f" last "(1, 2u)"
         for (; left > 0; left--) printf " "
     }' >"$work/$1.cc"
 }
@@ -31,16 +31,15 @@ time_of() {
 }
 ratio() { awk -v a="$1" -v b="$2" 'BEGIN { printf "%.2f", b / a }'; }
 for kind in functions variables; do
-    for with_main in 0 1; do
-        unit 524288 $kind $with_main
-        unit 1048576 $kind $with_main
-        half=$(time_of "$top/mmc" link 524288.cc)
-        whole=$(time_of "$top/mmc" link 1048576.cc)
+    unit 524288 $kind
+    unit 1048576 $kind
+    for what in check link; do
+        half=$(time_of "$top/mmc" $what 524288.cc)
+        whole=$(time_of "$top/mmc" $what 1048576.cc)
         said=$(head -c 60 "$work/said")
         size=$(wc -c <"$work/out.c")
-        [ $with_main = 1 ] && what=link || what=check
         echo "$what of $kind: $half s, $whole s, ratio $(ratio "$half" "$whole") ($said)"
-        if [ $with_main = 1 ]; then
+        if [ $what = link ]; then
             echo "  $(ratio "$checked" "$whole") times the check; $((size / 1048576)).$((size * 10 / 1048576 % 10)) bytes of C a byte"
         else
             checked=$whole

@@ -1,12 +1,12 @@
 -- What is answered, by what a command comes to and how that is written.
-use Rattle.std.proofs.Common.{◌≡◌, ◌⊎◌, ℕ, ◌+◌, ◌<◌, ◌≤◌, List, [], length, Option, refl, sym, ap, ◌∙◌, subst, inl, inr, arith}
+use Rattle.std.proofs.Common.{◌≡◌, ℕ, List, [], length, Option, sym, ap, ◌∙◌, subst, inl, inr, arith}
 use Rattle.std.proofs.lemmas.List.{take_all}
 use Rattle.mm_base.specs.Outside.{SinkSeen, grown}
 use Rattle.mm_base.proofs.Grown.{grown_nil}
 use Rattle.mm_command.specs.declared.words.Command.{Command}
 use Rattle.mm_command.specs.declared.writing.Outcome.{Outcome}
 use Rattle.mm_command.specs.Outside.{Change, Outside, SinkFailed, IsSame, Grew, GrewFront, GrewPart, Says}
-use Rattle.mm_command.specs.Due.{Due, Refused, Translated, Ran, status_of, message_of, HasText, IsText, WritesPart, write_failed, no_memory}
+use Rattle.mm_command.specs.Due.{Due, Refused, Accepted, Translated, Ran, status_of, message_of, HasText, IsText, WritesPart, write_failed, no_memory}
 use Rattle.mm_command.specs.Writing.{Reports, Finishes, IsOutcome}
 use Rattle.mm_command.specs.Answers.{AreTold, AreKept, LeavesOff, Answers}
 
@@ -37,12 +37,14 @@ reported due status message s (inr r) = front message s r.1
 -- where a part of a text was put, a text is due
 has_text : (d : Due) (text : List ℕ) (s : Change SinkSeen) → IsText d text → GrewPart text s → HasText d
 has_text (Refused status message) text s t p = absurd (no_part s (subst (λ x. GrewPart x s) t p))
+has_text Accepted text s t p = tt
 has_text (Translated p) text s t q = tt
 has_text (Ran o) text s t q = tt
 
 -- where a part of a message was put, no text is
 is_same : (d : Due) (text : List ℕ) (out err : Change SinkSeen) → IsText d text → GrewPart (message_of d) err → Grew text out → IsSame out
 is_same (Refused status message) text out err t p g = same out (subst (λ x. Grew x out) t g)
+is_same Accepted text out err t q g = absurd (no_part err q)
 is_same (Translated p) text out err t q g = absurd (no_part err q)
 is_same (Ran o) text out err t q g = absurd (no_part err q)
 

@@ -1,12 +1,11 @@
 -- What words tell, one after another.
-use Rattle.std.proofs.Common.{◌≡◌, ℕ, ◌+◌, ◌<◌, ◌≤◌, Bool, true, false, List, [], ◌∷◌, ◌++◌, length, take, drop, get_or, map, leb, length-drop, Option, Some, None, refl, sym, ap, ap₂, ◌∙◌, append_assoc, append-nil, arith}
+use Rattle.std.proofs.Common.{◌≡◌, ℕ, ◌+◌, ◌<◌, Bool, true, false, List, [], ◌∷◌, ◌++◌, length, take, drop, get_or, map, leb, length-drop, Option, Some, None, refl, sym, ap, ap₂, ◌∙◌, append_assoc, append-nil, arith}
 use Rattle.mm_command.specs.declared.words.Told.{Told}
 use Rattle.std.specs.Prelude.{◌-◌, min, String, string_bytes}
 use Rattle.std.proofs.lemmas.Bool.{leb-true, leb-false}
 use Rattle.std.proofs.lemmas.List.{drop_all, take_all, drop_more}
 use Rattle.mm_command.specs.declared.words.WordKind.{WordKind}
 use Rattle.mm_command.specs.declared.words.WordKind.TheVariants as word
-use Rattle.mm_command.specs.declared.words.Next.{Next}
 use Rattle.mm_command.specs.declared.words.Next.TheVariants as next
 use Rattle.mm_command.specs.Command.{told, nothing_told, onto, kind_of, plain_word, value, bound_of, goes_on}
 

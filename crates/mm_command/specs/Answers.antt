@@ -3,7 +3,7 @@ use Rattle.std.specs.Prelude.{◌≡◌, ◌≢◌, ◌⊎◌, ℕ, ◌≤◌, L
 use Rattle.mm_base.specs.Outside.{Contents, FilesSeen, SourceSeen}
 use Rattle.mm_base.specs.Input.{TakesSome}
 use Rattle.mm_command.specs.declared.words.Command.{Command}
-use Rattle.mm_command.specs.declared.words.Command.TheVariants.{Link, Run, Exec}
+use Rattle.mm_command.specs.declared.words.Command.TheVariants.{Check, Link, Run, Exec}
 use Rattle.mm_command.specs.Outside.{Change, Outside, FilesFailed, InputFailed, SinkFailed, IsSame, GrewFront, GrewPart, Says}
 use Rattle.mm_command.specs.Due.{Due, status_of, message_of, HasText, Writes, WritesPart, write_failed, no_memory}
 
@@ -12,6 +12,7 @@ use Rattle.mm_command.specs.Due.{Due, status_of, message_of, HasText, Writes, Wr
 -- a run takes its input, at most one byte past the limit; nothing else touches it
 abbrev pub InputKept : Option Command → Change SourceSeen → Type 0
 InputKept None i = i.new ≡ i.old
+InputKept (Some (Check name)) i = i.new ≡ i.old
 InputKept (Some (Link name)) i = i.new ≡ i.old
 InputKept (Some (Run name n)) i = TakesSome i.old i.new × (i.old.faults ≤ i.new.faults)
 InputKept (Some (Exec name n)) i = TakesSome i.old i.new × (i.old.faults ≤ i.new.faults)
@@ -22,6 +23,7 @@ TellsInput i = ((bytes : List ℕ) × (i.old.left ≡ Some bytes)) × (InputFail
 
 abbrev pub InputTells : Option Command → Change SourceSeen → Type 0
 InputTells None i = Unit {0}
+InputTells (Some (Check name)) i = Unit {0}
 InputTells (Some (Link name)) i = Unit {0}
 InputTells (Some (Run name n)) i = TellsInput i
 InputTells (Some (Exec name n)) i = TellsInput i

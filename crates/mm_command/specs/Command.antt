@@ -1,11 +1,11 @@
 -- What the words ask for. (Own.)
-use Rattle.std.specs.Prelude.{ℕ, ◌-◌, ◌≤◌, Bool, true, false, ◌&&◌, ◌==◌, nat_lt, nat_le, not, List, [], ◌∷◌, ◌++◌, Option, Some, None, codes, if◌then◌else◌, length, take, drop}
+use Rattle.std.specs.Prelude.{ℕ, ◌-◌, Bool, true, false, ◌&&◌, ◌==◌, nat_lt, nat_le, not, List, [], ◌∷◌, ◌++◌, Option, Some, None, codes, if◌then◌else◌, length, take, drop}
 use Rattle.std.specs.Str.{bytes_eq}
 use Rattle.std.specs.Str.Parse.{digits_value}
 use Rattle.std.specs.Fmt.{decimal}
 use Rattle.mm_base.specs.declared.limits.TheConstants.{MAX_STEPS, DEFAULT_STEPS}
 use Rattle.mm_command.specs.declared.words.Command.{Command}
-use Rattle.mm_command.specs.declared.words.Command.TheVariants.{Link, Run, Exec}
+use Rattle.mm_command.specs.declared.words.Command.TheVariants.{Check, Link, Run, Exec}
 use Rattle.mm_command.specs.declared.words.WordKind.{WordKind}
 use Rattle.mm_command.specs.declared.words.WordKind.TheVariants as word
 use Rattle.mm_command.specs.declared.words.Next.{Next}
@@ -97,14 +97,14 @@ bound_among (n ∷ m ∷ ns) = None
 
 -- ---- commands
 
-abbrev pub linking : Option (List ℕ) → Option Command
-linking None = None
-linking (Some name) = Some (Link name)
+-- the file of a unit, by what the words behind a command tell
+abbrev pub unit_of : Option Told → Option (List ℕ)
+unit_of None = None
+unit_of (Some t) = only_name true t.plain
 
--- what `link` is asked by what the words behind it tell
-abbrev pub link_of : Option Told → Option Command
-link_of None = None
-link_of (Some t) = linking (only_name true t.plain)
+abbrev pub naming : (List ℕ → Command) → Option (List ℕ) → Option Command
+naming asks None = None
+naming asks (Some name) = Some (asks name)
 
 abbrev pub bounded_by : Option (List ℕ) → Option ℕ → Option (List ℕ × ℕ)
 bounded_by None n = None
@@ -120,11 +120,13 @@ abbrev pub asking : (List ℕ → ℕ → Command) → Option (List ℕ × ℕ) 
 asking asks None = None
 asking asks (Some (name, n)) = Some (asks name n)
 
--- `link FILE`, `run FILE` and `exec FILE`, the last two with a bound on the steps or without
+-- `check FILE`, `link FILE`, `run FILE` and `exec FILE`, the last two with a bound on the steps or
+-- without
 abbrev pub command : List (List ℕ) → Option Command
 command [] = None
 command (c ∷ ws) =
-    if bytes_eq c (codes "link") then link_of (told false next.Word ws)
+    if bytes_eq c (codes "check") then naming Check (unit_of (told false next.Word ws))
+    else (if bytes_eq c (codes "link") then naming Link (unit_of (told false next.Word ws))
     else (if bytes_eq c (codes "run") then asking Run (bounded_of true (told true next.Word ws))
     else (if bytes_eq c (codes "exec") then asking Exec (bounded_of false (told true next.Word ws))
-    else None))
+    else None)))

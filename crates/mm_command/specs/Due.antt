@@ -1,5 +1,5 @@
 -- What a command comes to, and how that is written. (Own.)
-use Rattle.std.specs.Prelude.{◌≡◌, ℕ, ℤ, List, [], ◌∷◌, ◌++◌, codes}
+use Rattle.std.specs.Prelude.{◌≡◌, ℕ, ℤ, List, [], ◌++◌, codes}
 use Rattle.std.specs.List.{flat_map}
 use Rattle.std.specs.Fmt.{decimal, signed_decimal}
 use Rattle.mm_base.specs.Outside.{SinkSeen}
@@ -12,10 +12,11 @@ use Rattle.mm_command.specs.Outside.{Change, Grew, GrewPart}
 
 -- ---- what a command comes to
 
--- It is refused, with a status and a message; or a C text of this program is due; or the lines of
--- this run are.
+-- It is refused, with a status and a message; or the word is due that a unit has no listed fault;
+-- or a C text of this program is due; or the lines of this run are.
 pub data Due : Type 0 where
   Refused : ℕ → List ℕ → Due
+  Accepted : Due
   Translated : Program → Due
   Ran : run.Outcome → Due
 
@@ -51,27 +52,37 @@ status_of_run (run.TrappedBy k) = 5
 status_of_run run.GoesOn = 6
 status_of_run run.IsStuck = 12
 
+-- ---- units without a fault
+
+-- what is said of one
+abbrev pub ok : List ℕ
+ok = codes "ok\n"
+
 -- ---- how it is written
 
 abbrev pub status_of : Due → ℕ
 status_of (Refused status message) = status
+status_of Accepted = 0
 status_of (Translated p) = 0
 status_of (Ran o) = status_of_run o.finish
 
 abbrev pub message_of : Due → List ℕ
 message_of (Refused status message) = message
+message_of Accepted = []
 message_of (Translated p) = []
 message_of (Ran o) = []
 
 -- the text that is due on the output
 abbrev pub IsText : Due → List ℕ → Type 0
 IsText (Refused status message) text = text ≡ []
+IsText Accepted text = text ≡ ok
 IsText (Translated p) text = IsTranslation p text
 IsText (Ran o) text = text ≡ lines_of o
 
 -- a text is due
 abbrev pub HasText : Due → Type 0
 HasText (Refused status message) = ⊥
+HasText Accepted = Unit {0}
 HasText (Translated p) = Unit {0}
 HasText (Ran o) = Unit {0}
 

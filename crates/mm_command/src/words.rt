@@ -3,7 +3,7 @@
 ghost use Rattle.std.specs.Prelude.{◌≡◌, ℕ, true, false, IfOk, List, ◌∷◌, Option, Some, map, string_bytes};
 ghost use Rattle.std.specs.Option.{option_copied};
 ghost use Rattle.mm_command.specs.declared.words.Next.TheVariants as next;
-ghost use Rattle.mm_command.specs.Command.{is_option, gives_steps, kind_of, told, nothing_told, onto, plain_word, value, goes_on, is_record_name, only_name, bound_of, bound_among, link_of, bounded_of, command};
+ghost use Rattle.mm_command.specs.Command.{is_option, gives_steps, kind_of, told, nothing_told, onto, plain_word, value, goes_on, is_record_name, only_name, bound_of, bound_among, unit_of, bounded_of, command};
 
 use mm_base::limits::{DEFAULT_STEPS, MAX_STEPS};
 use mm_base::num::read_decimal;
@@ -14,6 +14,8 @@ use std::alloc::{AllocError, Global};
 /// What is asked of the program.
 #[derive(Drop)]
 pub enum Command {
+    /// To say that the unit in this file has no listed fault, or its first.
+    Check(Text),
     /// To write the C text of the unit in this file.
     Link(Text),
     /// To run the unit in this file, with this bound on its steps.
@@ -229,15 +231,12 @@ fn copied(alloc: Global, name: Option<&Text>) -> Result<Option<Text>, AllocError
     }
 }
 
-// The file that `link` is asked for.
-fn read_link(alloc: Global, words: &[String]) -> Result<Option<Command>, AllocError>
-    ensures { IfOk result (λ c. c ≡ link_of (told false next.Word (map string_bytes words.now))) }
+// The file of a unit, of a command that takes nothing else.
+fn read_unit(alloc: Global, words: &[String]) -> Result<Option<Text>, AllocError>
+    ensures { IfOk result (λ n. n ≡ unit_of (told false next.Word (map string_bytes words.now))) }
 {
-    let Some(told) = read_told(alloc, words, false)? else {
-        return Ok(None);
-    };
-    match copied(alloc, name(told.plain.as_slice(), true))? {
-        Some(name) => Ok(Some(Command::Link(name))),
+    match read_told(alloc, words, false)? {
+        Some(told) => copied(alloc, name(told.plain.as_slice(), true)),
         None => Ok(None),
     }
 }
@@ -268,8 +267,16 @@ pub fn read_words(alloc: Global, words: &[String]) -> Result<Option<Command>, Al
         return Ok(None);
     };
     let first = first.as_str();
-    if first == "link" {
-        read_link(alloc, rest)
+    if first == "check" {
+        match read_unit(alloc, rest)? {
+            Some(name) => Ok(Some(Command::Check(name))),
+            None => Ok(None),
+        }
+    } else if first == "link" {
+        match read_unit(alloc, rest)? {
+            Some(name) => Ok(Some(Command::Link(name))),
+            None => Ok(None),
+        }
     } else if first == "run" {
         match read_bounded(alloc, rest, true)? {
             Some((name, steps)) => Ok(Some(Command::Run(name, steps))),

@@ -1,28 +1,27 @@
 -- What commands come to.
-use Rattle.std.proofs.Common.{◌≡◌, ◌⊎◌, ℕ, ℤ, ◌≤◌, length, List, [], ◌++◌, Option, Some, None, refl, sym, ap, ◌∙◌, subst, inl, inr, arith}
+use Rattle.std.proofs.Common.{◌≡◌, ℕ, ◌≤◌, List, [], Option, Some, None, refl, sym, ap, subst, arith}
 use Rattle.std.specs.Prelude.{IfSome, IfNone, MatchOption}
-use Rattle.mm_base.specs.Outside.{Contents, FilesSeen, SourceSeen, FileReads, Rose, RoseBy}
+use Rattle.mm_base.specs.Outside.{Contents, FilesSeen, SourceSeen, FileReads}
 use Rattle.mm_base.specs.declared.limits.TheConstants.{MAX_C_BYTES}
 use Rattle.mm_base.specs.declared.outside.FileEnd.TheVariants.{Done, Absent, TooLong, Failed}
 use Rattle.mm_core.specs.Tree.{Program}
 use Rattle.mm_core.specs.Run.{source_run}
-use Rattle.mm_c.specs.CRun.{c_run}
 use Rattle.mm_agree.specs.Translates.{outcome_in_c}
 use Rattle.mm_token.specs.Causes as causes
 use Rattle.mm_command.specs.declared.words.Command.{Command}
-use Rattle.mm_command.specs.declared.words.Command.TheVariants.{Link, Run, Exec}
+use Rattle.mm_command.specs.declared.words.Command.TheVariants.{Check, Link, Run, Exec}
 use Rattle.mm_command.specs.declared.writing.Outcome.{Outcome}
-use Rattle.mm_command.specs.Outside.{Change, Outside, FilesFailed, IsSame}
-use Rattle.mm_command.specs.Due.{Due, Refused, Translated, no_memory}
+use Rattle.mm_command.specs.Outside.{Change, Outside, IsSame}
+use Rattle.mm_command.specs.Due.{Refused, Accepted, Translated, no_memory}
 use Rattle.mm_command.specs.Writing.{IsOutcome, Reports, Finishes}
 use Rattle.mm_command.specs.Answers.{AreKept, InputKept, Answers}
 use Rattle.mm_command.proofs.Laws.{written, nothing_due}
 use Rattle.mm_verdict.specs.declared.fault.Refusal.{Refusal}
 use Rattle.mm_verdict.specs.declared.fault.Refusal.TheVariants as refusal
 use Rattle.mm_verdict.specs.Refusals.{Refuses}
-use Rattle.mm_verdict.specs.Verdict.{Missing, Unread, Long, Faulty, Sound, IsSound}
+use Rattle.mm_verdict.specs.Verdict.{Missing, Unread, Long, Faulty, Sound, IsSound, unbuilt_in_check, unbuilt_in_link}
 use Rattle.mm_base.specs.Input.{TakesSome}
-use Rattle.mm_top.specs.Comes.{Comes, refused, NoText, UnreadText, LongText, BadText, GoodText, HasText, RunsText}
+use Rattle.mm_top.specs.Comes.{Comes, refused, NoText, UnreadText, LongText, BadText, GoodText}
 use Rattle.mm_top.specs.Messages.{no_file, read_failed, too_long, bad_text}
 use Rattle.mm_top.specs.Runs.{RunsTo}
 use Rattle.mm_top.specs.Steps.{ComesTo, IsRefusal}
@@ -35,29 +34,41 @@ use Rattle.mm_top.proofs.Runs.{takes_nothing}
 use Rattle.mm_top.proofs.OneDue.{one_due_only, other_status_only}
 
 module _ (files : Change FilesSeen) (i : Change SourceSeen) (name : List ℕ) (x : Outcome) where
+  -- ---- `check`
+
+  pub check_refused : (r : Refusal) → Refuses unbuilt_in_check r files name → IsRefusal r x → ComesTo (Some (Check name)) files i x
+  check_refused (refusal.Missing file) v o = (refused (Missing file), (Missing file, v.0, v.1, refl), o)
+  check_refused (refusal.Unread file) v o = (refused (Unread file), (Unread file, v.0, v.1, refl), o)
+  check_refused (refusal.Long file) v o = (refused (Long file), (Long file, v.0, v.1, refl), o)
+  check_refused (refusal.Faulty f) v o = (refused (Faulty f), (Faulty f, v.0, v.1, refl), o)
+  check_refused refusal.NoMemory v o = absurd o
+
+  pub checked : (p : Program) → IsSound unbuilt_in_check files.old.held name p → IsOutcome Accepted x → ComesTo (Some (Check name)) files i x
+  checked p s o = (Accepted, (Sound p, s, tt, refl), o)
+
   -- ---- `link`
 
-  pub link_refused : (r : Refusal) → Refuses r files name → IsRefusal r x → ComesTo (Some (Link name)) files i x
+  pub link_refused : (r : Refusal) → Refuses unbuilt_in_link r files name → IsRefusal r x → ComesTo (Some (Link name)) files i x
   link_refused (refusal.Missing file) v o = (refused (Missing file), (Missing file, v.0, v.1, refl), o)
   link_refused (refusal.Unread file) v o = (refused (Unread file), (Unread file, v.0, v.1, refl), o)
   link_refused (refusal.Long file) v o = (refused (Long file), (Long file, v.0, v.1, refl), o)
   link_refused (refusal.Faulty f) v o = (refused (Faulty f), (Faulty f, v.0, v.1, refl), o)
   link_refused refusal.NoMemory v o = absurd o
 
-  pub linked : (p : Program) → IsSound files.old.held name p → IsOutcome (Translated p) x → ComesTo (Some (Link name)) files i x
+  pub linked : (p : Program) → IsSound unbuilt_in_link files.old.held name p → IsOutcome (Translated p) x → ComesTo (Some (Link name)) files i x
   linked p s o = (Translated p, (Sound p, s, tt, refl), o)
 
   -- ---- `run`
 
   module _ (n : ℕ) where
-    pub run_refused : (r : Refusal) → Refuses r files name → IsRefusal r x → ComesTo (Some (Run name n)) files i x
+    pub run_refused : (r : Refusal) → Refuses unbuilt_in_link r files name → IsRefusal r x → ComesTo (Some (Run name n)) files i x
     run_refused (refusal.Missing file) v o = (refused (Missing file), (Missing file, v.0, v.1, refl), o)
     run_refused (refusal.Unread file) v o = (refused (Unread file), (Unread file, v.0, v.1, refl), o)
     run_refused (refusal.Long file) v o = (refused (Long file), (Long file, v.0, v.1, refl), o)
     run_refused (refusal.Faulty f) v o = (refused (Faulty f), (Faulty f, v.0, v.1, refl), o)
     run_refused refusal.NoMemory v o = absurd o
 
-    pub runs : (p : Program) → IsSound files.old.held name p → RunsTo (λ ns. outcome_in_c (source_run p ns n)) i x → ComesTo (Some (Run name n)) files i x
+    pub runs : (p : Program) → IsSound unbuilt_in_link files.old.held name p → RunsTo (λ ns. outcome_in_c (source_run p ns n)) i x → ComesTo (Some (Run name n)) files i x
     runs p s (d, r, o) = (d, (Sound p, s, tt, r), o)
 
     -- ---- `exec`
@@ -96,6 +107,7 @@ refused_text name text n i x read_end.NoMemory r o = absurd o
 
 pub input_same : (asked : Option Command) (i : Change SourceSeen) → i.new ≡ i.old → InputKept asked i
 input_same None i e = e
+input_same (Some (Check name)) i e = e
 input_same (Some (Link name)) i e = e
 input_same (Some (Run name n)) i e = (subst (λ s. TakesSome i.old s) (sym e) (takes_nothing i.old), omega (arith, ap (λ (s : SourceSeen). s.faults) e))
 input_same (Some (Exec name n)) i e = (subst (λ s. TakesSome i.old s) (sym e) (takes_nothing i.old), omega (arith, ap (λ (s : SourceSeen). s.faults) e))

@@ -1,5 +1,5 @@
 -- What a command comes to, where files and the input tell and don't fail.
-use Rattle.std.proofs.Common.{◌≡◌, ◌⊎◌, ℕ, ℤ, ◌+◌, ◌<◌, ◌≤◌, Bool, true, false, List, [], ◌∷◌, ◌++◌, length, get_or, Option, Some, None, refl, sym, ap, ◌∙◌, subst, inl, inr, arith, leb, length-append}
+use Rattle.std.proofs.Common.{◌≡◌, ℕ, ℤ, ◌<◌, ◌≤◌, Bool, true, false, List, [], ◌∷◌, ◌++◌, length, get_or, Some, None, refl, sym, ap, ◌∙◌, subst, arith, leb}
 use Rattle.std.proofs.lemmas.Bool.{leb-true, leb-false}
 use Rattle.std.proofs.Math.Seq.{get_or-append_seam}
 use Rattle.std.proofs.Math.ListN.{get_or-append}
@@ -8,22 +8,19 @@ use Rattle.mm_base.specs.Outside.{Contents, FilesSeen, SourceSeen}
 use Rattle.mm_base.specs.Input.{lines, IsIntLine, AreNumbers, IsFirstBad}
 use Rattle.mm_base.proofs.OneReading.{one_list, not_both}
 use Rattle.mm_base.specs.declared.limits.TheConstants.{MAX_C_BYTES, MAX_INPUT_BYTES}
-use Rattle.mm_c.specs.Tree as c
 use Rattle.mm_c.specs.CRun as run
 use Rattle.mm_c.specs.CRun.{Outcome, c_run}
-use Rattle.mm_c.specs.Tokens.{Place}
 use Rattle.mm_c.specs.Spelling.{SpellsProgram, RefusedAt}
 use Rattle.mm_core.specs.Run.{source_run}
 use Rattle.mm_agree.specs.Translates.{outcome_in_c}
-use Rattle.mm_command.specs.declared.words.Command.{Command}
-use Rattle.mm_command.specs.declared.words.Command.TheVariants.{Link, Run, Exec}
+use Rattle.mm_command.specs.declared.words.Command.TheVariants.{Check, Link, Run, Exec}
 use Rattle.mm_command.specs.Outside.{Change, FilesFailed, InputFailed}
-use Rattle.mm_command.specs.Due.{Due, Refused, Translated, Ran, status_of, status_of_run}
-use Rattle.mm_command.specs.Answers.{AreTold}
-use Rattle.mm_verdict.specs.Verdict.{Verdict, Missing, Unread, Long, Faulty, Sound, HasVerdict, HasCause}
+use Rattle.mm_command.specs.Due.{Due, Refused, status_of, status_of_run}
+use Rattle.mm_syntax.specs.declared.form.Forms.{Forms}
+use Rattle.mm_verdict.specs.Verdict.{Verdict, Missing, Unread, Long, Faulty, Sound, HasVerdict, HasCause, unbuilt_in_check, unbuilt_in_link}
 use Rattle.mm_verdict.specs.Laws.{IsByContents}
 use Rattle.mm_verdict.proofs.Told.{one_verdict_only}
-use Rattle.mm_top.specs.Comes.{Input, Numbers, BadLine, LongInput, UnreadInput, IsWhole, HasInput, InputCause, CText, NoText, UnreadText, LongText, BadText, GoodText, IsTextOf, HasText, TextCause, refused, ran, Runs, RunsUnit, RunsText, Comes}
+use Rattle.mm_top.specs.Comes.{Input, Numbers, BadLine, LongInput, UnreadInput, IsWhole, HasInput, InputCause, CText, NoText, UnreadText, LongText, BadText, GoodText, HasText, TextCause, refused, checked, ran, Runs, RunsUnit, RunsText}
 use Rattle.mm_top.specs.Laws.{OneDue, OtherStatus}
 
 -- ---- the input
@@ -115,11 +112,11 @@ by_contents files (Long file) fine c = tt
 by_contents files (Faulty f) fine c = tt
 by_contents files (Sound p) fine c = tt
 
-module _ (files : Change FilesSeen) (h : Contents) (held : files.old.held ≡ Some h) (fine : FilesFailed files → ⊥) (name : List ℕ) where
-  same_verdict : (v w : Verdict) → HasVerdict files.old.held name v → HasVerdict files.old.held name w → HasCause files v → HasCause files w → v ≡ w
+module _ (files : Change FilesSeen) (h : Contents) (held : files.old.held ≡ Some h) (fine : FilesFailed files → ⊥) (unbuilt : Forms) (name : List ℕ) where
+  same_verdict : (v w : Verdict) → HasVerdict unbuilt files.old.held name v → HasVerdict unbuilt files.old.held name w → HasCause files v → HasCause files w → v ≡ w
   same_verdict v w x y c d =
-      one_verdict_only h name v w (by_contents files v fine c) (by_contents files w fine d)
-      (subst (λ o. HasVerdict o name v) held x) (subst (λ o. HasVerdict o name w) held y)
+      one_verdict_only unbuilt h name v w (by_contents files v fine c) (by_contents files w fine d)
+      (subst (λ o. HasVerdict unbuilt o name v) held x) (subst (λ o. HasVerdict unbuilt o name w) held y)
 
 -- a run of a unit, by its verdict
 runs_unit : (n : ℕ) (i : Change SourceSeen) (bytes : List ℕ) → i.old.left ≡ Some bytes → (InputFailed i → ⊥) → (v : Verdict) (d e : Due) → RunsUnit n i v d → RunsUnit n i v e → d ≡ e
@@ -138,11 +135,13 @@ runs_text name n i bytes left fine (GoodText q) d e x y = one_run i bytes left f
 
 pub one_due_only : OneDue
 one_due_only None files input told d e x y = x ∙ sym y
+one_due_only (Some (Check name)) files input told d e (v, a, c, x) (w, b, s, y) =
+    x ∙ ap checked (same_verdict files told.held.0 told.held.1 told.read unbuilt_in_check name v w a b c s) ∙ sym y
 one_due_only (Some (Link name)) files input told d e (v, a, c, x) (w, b, s, y) =
-    x ∙ ap refused (same_verdict files told.held.0 told.held.1 told.read name v w a b c s) ∙ sym y
+    x ∙ ap refused (same_verdict files told.held.0 told.held.1 told.read unbuilt_in_link name v w a b c s) ∙ sym y
 one_due_only (Some (Run name n)) files input told d e (v, a, c, x) (w, b, s, y) =
     let l = told.left in
-    let same = same_verdict files told.held.0 told.held.1 told.read name v w a b c s in
+    let same = same_verdict files told.held.0 told.held.1 told.read unbuilt_in_link name v w a b c s in
     runs_unit n input l.0.0 l.0.1 l.1 v d e x (subst (λ u. RunsUnit n input u e) (sym same) y)
 one_due_only (Some (Exec name n)) files input told d e (t, a, c, x) (u, b, s, y) =
     let l = told.left in
@@ -167,6 +166,13 @@ fair_refused (Unread file) = (λ e. omega (arith, e), λ e. omega (arith, e))
 fair_refused (Long file) = (λ e. omega (arith, e), λ e. omega (arith, e))
 fair_refused (Faulty f) = (λ e. omega (arith, e), λ e. omega (arith, e))
 fair_refused (Sound p) = (λ e. omega (arith, e), λ e. omega (arith, e))
+
+fair_checked : (v : Verdict) → Fair (checked v)
+fair_checked (Missing file) = fair_refused (Missing file)
+fair_checked (Unread file) = fair_refused (Unread file)
+fair_checked (Long file) = fair_refused (Long file)
+fair_checked (Faulty f) = fair_refused (Faulty f)
+fair_checked (Sound p) = (λ e. omega (arith, e), λ e. omega (arith, e))
 
 fair_ran : (f : List ℤ → Outcome) (i : Input) → Fair (ran f i)
 fair_ran f (Numbers ns) = fair_run (f ns).finish
@@ -196,6 +202,7 @@ fair_text name n i (GoodText q) d (a, h, c, x) = is_fair d _ x (fair_ran (λ ns.
 
 pub other_status_only : OtherStatus
 other_status_only None files input d x = fair_number d 2 _ x (λ e. omega (arith, e)) (λ e. omega (arith, e))
+other_status_only (Some (Check name)) files input d (v, a, c, x) = is_fair d (checked v) x (fair_checked v)
 other_status_only (Some (Link name)) files input d (v, a, c, x) = is_fair d (refused v) x (fair_refused v)
 other_status_only (Some (Run name n)) files input d (v, a, c, x) = fair_unit n input v d x
 other_status_only (Some (Exec name n)) files input d (t, a, c, x) = fair_text name n input t d x

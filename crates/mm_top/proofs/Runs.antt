@@ -1,13 +1,13 @@
 -- What runs come to.
-use Rattle.std.proofs.Common.{◌≡◌, ℕ, zero, suc, ◌+◌, ◌<◌, ◌≤◌, length, ℤ, List, [], ◌∷◌, Option, Some, None, IsTrue, map, refl, sym, ap, ap₂, ◌∙◌, subst, arith, Global}
-use Rattle.std.specs.Prelude.{slice_index_or, IfSome, IfNone, codes, Result, Ok, Err}
+use Rattle.std.proofs.Common.{◌≡◌, ℕ, suc, ℤ, List, [], ◌∷◌, Option, Some, None, IsTrue, refl, ap, ap₂, ◌∙◌, subst, arith, Global}
+use Rattle.std.specs.Prelude.{Err}
 use Rattle.std.specs.List.{All}
 use Rattle.mm_base.specs.declared.input.InputEnd.{InputEnd}
 use Rattle.mm_base.specs.declared.input.InputEnd.TheVariants as input_end
-use Rattle.mm_base.specs.Input.{ReadsInput, FrontTaken, Taken, TakenWhole, TakesSome, IsIntLine, AreNumbers, IsFirstBad, IsTooLong, lines, line_value}
+use Rattle.mm_base.specs.Input.{ReadsInput, FrontTaken, TakenWhole, TakesSome, IsIntLine, AreNumbers, IsFirstBad, IsTooLong, lines, line_value}
 use Rattle.mm_base.specs.Num.{is_int}
 use Rattle.mm_base.specs.Outside.{SourceSeen, Rose}
-use Rattle.mm_base.specs.World.{World, world_of}
+use Rattle.mm_base.specs.World.{World}
 use Rattle.mm_meaning.specs.Run.{Run, Gives, Stops}
 use Rattle.mm_meaning.specs.Later.{state_of}
 use Rattle.mm_classes.specs.Lists.{Has, first, later}
@@ -25,10 +25,10 @@ use Rattle.mm_c_machine.specs.declared.run.End.{End}
 use Rattle.mm_c_machine.specs.Runs.{EndsAs}
 use Rattle.mm_agree.specs.Translates.{IsInput, Translates, outcome_in_c}
 use Rattle.mm_command.specs.Outside.{Change}
-use Rattle.mm_command.specs.Due.{Due, Ran}
+use Rattle.mm_command.specs.Due.{Ran}
 use Rattle.mm_command.specs.declared.writing.Outcome as written
 use Rattle.mm_command.specs.Writing.{IsOutcome}
-use Rattle.mm_top.specs.Comes.{Numbers, BadLine, LongInput, UnreadInput, ran, Runs}
+use Rattle.mm_top.specs.Comes.{Numbers, BadLine, LongInput, UnreadInput, ran}
 use Rattle.mm_top.specs.Runs.{outcome_with, RefusesInput, RunsTo}
 use Rattle.mm_top.proofs.Known.{if_none}
 

@@ -1,10 +1,8 @@
 -- What each command comes to. (Own.)
-use Rattle.std.specs.Prelude.{◌≡◌, ◌+◌, ◌<◌, ◌≤◌, ◌==◌, if◌then◌else◌, ℕ, ℤ, List, [], ◌∷◌, ◌++◌, length, Option, Some, None, IfSome, IfNone, codes}
-use Rattle.std.specs.Fmt.{decimal}
+use Rattle.std.specs.Prelude.{◌≡◌, ◌+◌, ◌<◌, ◌≤◌, ℕ, ℤ, List, length, Option, Some, None, IfSome, IfNone, codes}
 use Rattle.mm_base.specs.Outside.{Contents, FilesSeen, SourceSeen, RoseBy}
 use Rattle.mm_base.specs.Input.{AreNumbers, IsFirstBad}
 use Rattle.mm_base.specs.declared.limits.TheConstants.{MAX_UNIT_BYTES, MAX_C_BYTES, MAX_INPUT_BYTES}
-use Rattle.mm_core.specs.Tree.{Program}
 use Rattle.mm_core.specs.Run.{source_run}
 use Rattle.mm_c.specs.Tree as c
 use Rattle.mm_c.specs.CRun.{Outcome, c_run}
@@ -13,10 +11,10 @@ use Rattle.mm_c.specs.Spelling.{SpellsProgram, RefusedAt}
 use Rattle.mm_agree.specs.Translates.{outcome_in_c}
 use Rattle.mm_token.specs.Tokens.{Holds}
 use Rattle.mm_command.specs.declared.words.Command.{Command}
-use Rattle.mm_command.specs.declared.words.Command.TheVariants.{Link, Run, Exec}
+use Rattle.mm_command.specs.declared.words.Command.TheVariants.{Check, Link, Run, Exec}
 use Rattle.mm_command.specs.Outside.{Change, FilesFailed, InputFailed, DrewPast}
-use Rattle.mm_command.specs.Due.{Due, Refused, Translated, Ran, usage}
-use Rattle.mm_verdict.specs.Verdict.{Verdict, Missing, Unread, Long, Faulty, Sound, HasVerdict, HasCause}
+use Rattle.mm_command.specs.Due.{Due, Refused, Accepted, Translated, Ran, usage}
+use Rattle.mm_verdict.specs.Verdict.{Verdict, Missing, Unread, Long, Faulty, Sound, HasVerdict, HasCause, unbuilt_in_check, unbuilt_in_link}
 use Rattle.mm_top.specs.Messages.{no_file, read_failed, too_long, fault_message, bad_line, input_failed, bad_text}
 
 -- ---- the input of a run
@@ -80,13 +78,18 @@ TextCause files (GoodText q) = Unit {0}
 
 -- ---- what is made of what is found
 
--- of a unit that isn't sound
+-- of a unit that isn't sound; of one that is, its C text
 abbrev pub refused : Verdict → Due
 refused (Missing file) = Refused 3 (no_file file)
 refused (Unread file) = Refused 3 (read_failed file)
 refused (Long file) = Refused 13 (too_long file MAX_UNIT_BYTES)
 refused (Faulty f) = Refused 1 (fault_message f)
 refused (Sound p) = Translated p
+
+-- of a unit that is checked
+abbrev pub checked : Verdict → Due
+checked (Sound p) = Accepted
+checked v = refused v
 
 -- of a run, by its outcome on the numbers of the input
 abbrev pub ran : (List ℤ → Outcome) → Input → Due
@@ -121,9 +124,14 @@ RunsText name n i (GoodText q) d = Runs (λ ns. c_run q ns n) i d
 -- other goes by what is found, of which the counts show the cause.
 abbrev pub Comes : Option Command → Change FilesSeen → Change SourceSeen → Due → Type 0
 Comes None files input d = d ≡ Refused 2 usage
+Comes (Some (Check name)) files input d =
+    (v : Verdict) × HasVerdict unbuilt_in_check files.old.held name v × HasCause files v
+    × (d ≡ checked v)
 Comes (Some (Link name)) files input d =
-    (v : Verdict) × HasVerdict files.old.held name v × HasCause files v × (d ≡ refused v)
+    (v : Verdict) × HasVerdict unbuilt_in_link files.old.held name v × HasCause files v
+    × (d ≡ refused v)
 Comes (Some (Run name n)) files input d =
-    (v : Verdict) × HasVerdict files.old.held name v × HasCause files v × RunsUnit n input v d
+    (v : Verdict) × HasVerdict unbuilt_in_link files.old.held name v × HasCause files v
+    × RunsUnit n input v d
 Comes (Some (Exec name n)) files input d =
     (t : CText) × HasText files.old.held name t × TextCause files t × RunsText name n input t d

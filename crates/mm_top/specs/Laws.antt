@@ -1,5 +1,5 @@
 -- A command comes to one thing. (Own.)
-use Rattle.std.specs.Prelude.{◌≡◌, ℕ, Option}
+use Rattle.std.specs.Prelude.{◌≡◌, Option}
 use Rattle.mm_base.specs.Outside.{FilesSeen, SourceSeen}
 use Rattle.mm_command.specs.declared.words.Command.{Command}
 use Rattle.mm_command.specs.Outside.{Change}

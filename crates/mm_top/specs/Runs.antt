@@ -1,6 +1,5 @@
 -- What the steps of a run leave for the next.
-use Rattle.std.specs.Prelude.{ℕ, ℤ, List}
-use Rattle.std.specs.Prelude.{codes}
+use Rattle.std.specs.Prelude.{ℤ, List}
 use Rattle.mm_base.specs.Outside.{SourceSeen}
 use Rattle.mm_base.specs.declared.input.InputEnd.{InputEnd}
 use Rattle.mm_base.specs.declared.input.InputEnd.TheVariants as end

@@ -1,5 +1,5 @@
 -- What the steps of commands leave for the next.
-use Rattle.std.specs.Prelude.{ℕ, List, Option}
+use Rattle.std.specs.Prelude.{Option}
 use Rattle.mm_base.specs.Outside.{FilesSeen, SourceSeen}
 use Rattle.mm_verdict.specs.declared.fault.Refusal.{Refusal}
 use Rattle.mm_verdict.specs.declared.fault.Refusal.TheVariants as refusal

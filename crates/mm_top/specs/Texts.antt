@@ -1,7 +1,6 @@
 -- What the steps of the run of a C text leave for the next.
-use Rattle.std.specs.Prelude.{◌≡◌, ℕ, List}
+use Rattle.std.specs.Prelude.{ℕ, List}
 use Rattle.mm_base.specs.Outside.{SourceSeen}
-use Rattle.mm_c.specs.CRun.{c_run}
 use Rattle.mm_c.specs.Spelling.{SpellsProgram, RefusedAt}
 use Rattle.mm_command.specs.declared.writing.Outcome.{Outcome}
 use Rattle.mm_command.specs.Outside.{Change}

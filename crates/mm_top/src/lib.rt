@@ -1,6 +1,7 @@
 //! The commands: what the words ask for is done, and the answer is its status.
 #![tactic(auto)]
 
+mod check;
 pub mod law;
 mod link;
 mod message;

@@ -19,6 +19,7 @@ use mm_c_print::print;
 use mm_command::writing::Outcome;
 use mm_core::tree::CoreFn;
 use mm_emit::program::lower_program;
+use mm_verdict::forms::unbuilt_in_link;
 use mm_verdict::unit::sound_unit;
 use std::alloc::Global;
 
@@ -44,7 +45,7 @@ pub fn link<F: Files>(alloc: Global, name: &str, files: &mut F) -> Result<Outcom
         (record { old = F.seen files.old; new = F.seen files.new }) input x) }
     ensures files { AreKept (F.seen files.old) (F.seen files.new) }
 {
-    match sound_unit(alloc, name, files) {
+    match sound_unit(alloc, name, unbuilt_in_link(), files) {
         Ok(functions) => translated(alloc, functions.as_slice()),
         Err(reason) => refused(alloc, &reason),
     }

@@ -7,6 +7,7 @@ ghost use Rattle.mm_command.specs.Answers.{InputKept, Answers};
 ghost use Rattle.mm_top.specs.Comes.{Comes};
 ghost use Rattle.mm_top.specs.Steps.{ComesTo};
 
+use crate::check::check;
 use crate::link::link;
 use crate::outcome::refusal;
 use crate::text::exec;
@@ -35,6 +36,7 @@ fn outcome<F: Files, I: Source>(
             let message = Vec::from_slice(alloc, b"mmc: usage\n")?;
             Ok(refusal(alloc, 2, message))
         }
+        Some(Command::Check(name)) => check(alloc, name.as_str(), files),
         Some(Command::Link(name)) => link(alloc, name.as_str(), files),
         Some(Command::Run(name, steps)) => run(alloc, name.as_str(), *steps, files, input),
         Some(Command::Exec(name, steps)) => exec(alloc, name.as_str(), *steps, files, input),

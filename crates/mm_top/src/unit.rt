@@ -19,6 +19,7 @@ use mm_base::outside::{Files, Source};
 use mm_command::writing::Outcome;
 use mm_core::tree::CoreFn;
 use mm_emit::program::lower_program;
+use mm_verdict::forms::unbuilt_in_link;
 use mm_verdict::unit::sound_unit;
 use std::alloc::Global;
 
@@ -59,7 +60,7 @@ pub fn run<F: Files, I: Source>(
     ensures front { TakesSome (I.seen input.old) (I.seen input.new) }
     ensures later { (I.seen input.old).faults ≤ (I.seen input.new).faults }
 {
-    match sound_unit(alloc, name, files) {
+    match sound_unit(alloc, name, unbuilt_in_link(), files) {
         Ok(functions) => run_functions(alloc, functions.as_slice(), input, steps),
         Err(reason) => refused(alloc, &reason),
     }

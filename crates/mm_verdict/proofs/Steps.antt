@@ -10,6 +10,7 @@ use Rattle.mm_token.specs.declared.token.TokenEnd.TheVariants.{Absent, Failed, T
 use Rattle.mm_token.specs.Tokens.{unit_start, Reads, IsRefused}
 use Rattle.mm_token.specs.Causes as causes
 use Rattle.mm_syntax.specs.declared.decl.Unit.{Unit as UnitTree}
+use Rattle.mm_syntax.specs.declared.form.Forms.{Forms}
 use Rattle.mm_syntax.specs.Forms.{first_of, shown_unit}
 use Rattle.mm_syntax.specs.View.{unit_view}
 use Rattle.mm_parse_unit.specs.Units.{IsSyntaxFault}
@@ -31,7 +32,7 @@ use Rattle.mm_command.specs.Outside.{Change, FilesFailed}
 use Rattle.mm_verdict.specs.declared.fault.Fault.{Fault}
 use Rattle.mm_verdict.specs.declared.fault.Refusal.{Refusal}
 use Rattle.mm_verdict.specs.declared.fault.Refusal.TheVariants as refusal
-use Rattle.mm_verdict.specs.Verdict.{IsTyped, IsSound, IsFaulty, file_of, unbuilt_forms}
+use Rattle.mm_verdict.specs.Verdict.{IsTyped, IsSound, IsFaulty, file_of}
 use Rattle.mm_verdict.specs.Refusals.{Refuses, RefusesTokens, RefusesTree, RefusesBuilt, RefusesUnit, IsFaultOr, IsUnitOf, HasProgram}
 use Rattle.mm_verdict.proofs.Defined.{called_are_defined}
 
@@ -40,37 +41,40 @@ untold : (held : Option Contents) (P : Type 0) → MatchOption held P (λ _. Uni
 untold None P why = why
 untold (Some h) P why = tt
 
-pub missing : (f : Change FilesSeen) (name file : List ℕ) (place : Place) → IsRefused f.old.held name (Absent file place) → causes.HasCause (Absent file place) f.old f.new → Refuses (refusal.Missing file) f name
-missing f name file place r why = ((place, r), untold f.old.held (FilesFailed f) why)
+-- ---- refusals, where these forms are unbuilt
 
-pub unread : (f : Change FilesSeen) (name file : List ℕ) → IsRefused f.old.held name (Failed file) → causes.HasCause (Failed file) f.old f.new → Refuses (refusal.Unread file) f name
-unread f name file r why = (r, why)
+module _ (unbuilt : Forms) where
+  pub missing : (f : Change FilesSeen) (name file : List ℕ) (place : Place) → IsRefused f.old.held name (Absent file place) → causes.HasCause (Absent file place) f.old f.new → Refuses unbuilt (refusal.Missing file) f name
+  missing f name file place r why = ((place, r), untold f.old.held (FilesFailed f) why)
 
-pub long : (f : Change FilesSeen) (name file : List ℕ) → IsRefused f.old.held name (TooLong file) → causes.HasCause (TooLong file) f.old f.new → Refuses (refusal.Long file) f name
-long f name file r why = (r, untold f.old.held _ why)
+  pub unread : (f : Change FilesSeen) (name file : List ℕ) → IsRefused f.old.held name (Failed file) → causes.HasCause (Failed file) f.old f.new → Refuses unbuilt (refusal.Unread file) f name
+  unread f name file r why = (r, why)
 
--- a refusal by this fault, where it is one of the unit
-by_fault : (r : Refusal) (f : Fault) (files : Change FilesSeen) (name : List ℕ) → IsFaultOr r f → IsFaulty files.old.held name f → Refuses r files name
-by_fault r f files name (inl is) x = subst (λ q. Refuses q files name) (sym is) (x, tt)
-by_fault r f files name (inr is) x = subst (λ q. Refuses q files name) (sym is) tt
+  pub long : (f : Change FilesSeen) (name file : List ℕ) → IsRefused f.old.held name (TooLong file) → causes.HasCause (TooLong file) f.old f.new → Refuses unbuilt (refusal.Long file) f name
+  long f name file r why = (r, untold f.old.held _ why)
 
-pub lexical : (r : Refusal) (files : Change FilesSeen) (name file : List ℕ) (code : Code) (place : Place) → IsRefused files.old.held name (LexicalFault code place file) → IsFaultOr r (record { code = code; place = place; file = file; text = [] }) → Refuses r files name
-lexical r files name file code place x is = by_fault r _ files name is (inl (x, refl))
+  -- a refusal by this fault, where it is one of the unit
+  by_fault : (r : Refusal) (f : Fault) (files : Change FilesSeen) (name : List ℕ) → IsFaultOr r f → IsFaulty unbuilt files.old.held name f → Refuses unbuilt r files name
+  by_fault r f files name (inl is) x = subst (λ q. Refuses unbuilt q files name) (sym is) (x, tt)
+  by_fault r f files name (inr is) x = subst (λ q. Refuses unbuilt q files name) (sym is) tt
 
-module _ (r : Refusal) (name : List ℕ) (tokens : Tokens) where
-  pub syntactic : (code : Code) (place : Place) → IsSyntaxFault tokens.list tokens.end code place → IsFaultOr r (record { code = code; place = place; file = file_of tokens.files place; text = [] }) → RefusesTokens r name tokens
-  syntactic code place f is = λ files reads. by_fault r _ files name is (inr (inl (tokens, reads, f, refl, refl)))
+  pub lexical : (r : Refusal) (files : Change FilesSeen) (name file : List ℕ) (code : Code) (place : Place) → IsRefused files.old.held name (LexicalFault code place file) → IsFaultOr r (record { code = code; place = place; file = file; text = [] }) → Refuses unbuilt r files name
+  lexical r files name file code place x is = by_fault r _ files name is (inl (x, refl))
 
-  pub unbuilt : (tree : UnitTree) (place : Place) → first_of unbuilt_forms (shown_unit tree).marks ≡ Some place → IsFaultOr r (record { code = N0; place = place; file = file_of tokens.files place; text = [] }) → RefusesTree r name tokens tree
-  unbuilt tree place f is = λ t files reads. by_fault r _ files name is (inr (inr (inl (tokens, tree, record { reads = reads; is_tree = t }, f, refl, refl, refl))))
+module _ (unbuilt : Forms) (r : Refusal) (name : List ℕ) (tokens : Tokens) where
+  pub syntactic : (code : Code) (place : Place) → IsSyntaxFault tokens.list tokens.end code place → IsFaultOr r (record { code = code; place = place; file = file_of tokens.files place; text = [] }) → RefusesTokens unbuilt r name tokens
+  syntactic code place f is = λ files reads. by_fault unbuilt r _ files name is (inr (inl (tokens, reads, f, refl, refl)))
 
-  pub ill_typed : (tree : UnitTree) (code : Code) (place : Place) (text : List ℕ) → UnitFaults (unit_view tree) (at code place text) → IsFaultOr r (record { code = code; place = place; file = file_of tokens.files place; text = text }) → RefusesBuilt r name tokens tree
+  pub not_built : (tree : UnitTree) (place : Place) → first_of unbuilt (shown_unit tree).marks ≡ Some place → IsFaultOr r (record { code = N0; place = place; file = file_of tokens.files place; text = [] }) → RefusesTree unbuilt r name tokens tree
+  not_built tree place f is = λ t files reads. by_fault unbuilt r _ files name is (inr (inr (inl (tokens, tree, record { reads = reads; is_tree = t }, f, refl, refl, refl))))
+
+  pub ill_typed : (tree : UnitTree) (code : Code) (place : Place) (text : List ℕ) → UnitFaults (unit_view tree) (at code place text) → IsFaultOr r (record { code = code; place = place; file = file_of tokens.files place; text = text }) → RefusesBuilt unbuilt r name tokens tree
   ill_typed tree code place text f is = λ b t files reads.
-      by_fault r _ files name is (inr (inr (inr (inl (tokens, tree, record { read = record { reads = reads; is_tree = t }; built = b }, f, refl)))))
+      by_fault unbuilt r _ files name is (inr (inr (inr (inl (tokens, tree, record { read = record { reads = reads; is_tree = t }; built = b }, f, refl)))))
 
 -- the unit of a name is typed as this
-typed_of : (tokens : Tokens) (tree : UnitTree) (unit : Checked) → IsUnitOf tokens tree unit → (held : Option Contents) (name : List ℕ) → Reads held name tokens → IsTyped held name tree unit
-typed_of tokens tree unit u held name reads =
+typed_of : (unbuilt : Forms) (tokens : Tokens) (tree : UnitTree) (unit : Checked) → IsUnitOf unbuilt tokens tree unit → (held : Option Contents) (name : List ℕ) → Reads held name tokens → IsTyped unbuilt held name tree unit
+typed_of unbuilt tokens tree unit u held name reads =
     record { tokens = tokens; built = record { read = record { reads = reads; is_tree = u.is_tree }; built = u.built }; typed = u.typed }
 
 -- ---- what a program lacks
@@ -91,35 +95,35 @@ not_both_ways b f t = let e : false ≡ true = sym f ∙ t in cc
 pub lacks_none : (fs : List Function) → None ≡ lack_in (lacking fs) → lacking fs ≡ None
 lacks_none fs e = none_lacks (lacking fs) e
 
-module _ (r : Refusal) (name : List ℕ) (tree : UnitTree) (fs : List Function) where
+module _ (unbuilt : Forms) (r : Refusal) (name : List ℕ) (tree : UnitTree) (fs : List Function) where
   abbrev unit : Checked
   unit = unit_of (unit_view tree) fs
 
   abbrev p4 : Place → List ℕ → Fault
   p4 place text = record { code = P4; place = place; file = file_of tree.files place; text = text }
 
-  lacks : (lack : Lack) (o : Option Function) → lacking fs ≡ o → Some lack ≡ lack_in o → IsFaultOr r (p4 lack.place lack.signature) → RefusesUnit r name unit
+  lacks : (lack : Lack) (o : Option Function) → lacking fs ≡ o → Some lack ≡ lack_in o → IsFaultOr r (p4 lack.place lack.signature) → RefusesUnit unbuilt r name unit
   lacks lack None of e is = absurd (some_lacks lack e)
   lacks lack (Some g) of e is = λ tokens t u files reads.
       let at_g : IsFaultOr r (p4 g.place (signature [] g)) = subst (λ (x : Lack). IsFaultOr r (p4 x.place x.signature)) (is_lack_of lack g e) is in
-      by_fault r _ files name at_g (inr (inr (inr (inr (inl (t, unit, typed_of tokens t unit u files.old.held name reads, g, of, refl, refl, refl, refl))))))
+      by_fault unbuilt r _ files name at_g (inr (inr (inr (inr (inl (t, unit, typed_of unbuilt tokens t unit u files.old.held name reads, g, of, refl, refl, refl, refl))))))
 
-  pub undefined : (lack : Lack) → Some lack ≡ lack_in (lacking fs) → IsFaultOr r (p4 lack.place lack.signature) → RefusesUnit r name unit
+  pub undefined : (lack : Lack) → Some lack ≡ lack_in (lacking fs) → IsFaultOr r (p4 lack.place lack.signature) → RefusesUnit unbuilt r name unit
   undefined lack e is = lacks lack (lacking fs) refl e is
 
-  pub mainless : None ≡ lack_in (lacking fs) → (HasMain fs → ⊥) → IsFaultOr r (record { code = P5; place = unit_start; file = name; text = codes "main" }) → RefusesUnit r name unit
+  pub mainless : None ≡ lack_in (lacking fs) → (HasMain fs → ⊥) → IsFaultOr r (record { code = P5; place = unit_start; file = name; text = codes "main" }) → RefusesUnit unbuilt r name unit
   mainless e without is = λ tokens t u files reads.
-      by_fault r _ files name is (inr (inr (inr (inr (inr (t, unit, typed_of tokens t unit u files.old.held name reads, lacks_none fs e, without, refl, refl, refl, refl))))))
+      by_fault unbuilt r _ files name is (inr (inr (inr (inr (inr (t, unit, typed_of unbuilt tokens t unit u files.old.held name reads, lacks_none fs e, without, refl, refl, refl, refl))))))
 
 -- ---- programs that lack nothing
 
-module _ (tokens : Tokens) (fs : List Function) (h : HasProgram tokens fs) where
+module _ (unbuilt : Forms) (tokens : Tokens) (fs : List Function) (h : HasProgram unbuilt tokens fs) where
   abbrev whole : Checked
   whole = unit_of (unit_view h.tree) fs
 
-  pub is_sound : (held : Option Contents) (name : List ℕ) → Reads held name tokens → IsSound held name (record { classes = []; functions = fs })
+  pub is_sound : (held : Option Contents) (name : List ℕ) → Reads held name tokens → IsSound unbuilt held name (record { classes = []; functions = fs })
   is_sound held name reads =
-      record { tree = h.tree; unit = whole; typed = typed_of tokens h.tree whole h.unit held name reads; complete = h.complete; program = refl }
+      record { tree = h.tree; unit = whole; typed = typed_of unbuilt tokens h.tree whole h.unit held name reads; complete = h.complete; program = refl }
 
   pub is_scalar : IsScalar (record { classes = []; functions = fs })
   is_scalar =
@@ -130,22 +134,22 @@ module _ (tokens : Tokens) (fs : List Function) (h : HasProgram tokens fs) where
 
 -- ---- the answer, by what is found in the tokens
 
-module _ (tokens : Tokens) (name : List ℕ) where
+module _ (unbuilt : Forms) (tokens : Tokens) (name : List ℕ) where
   abbrev Found : Result (List CoreFn) Refusal → Type 0
-  Found o = MatchResult o (λ fs. HasProgram tokens (map function_view fs)) (λ r. RefusesTokens r name tokens)
+  Found o = MatchResult o (λ fs. HasProgram unbuilt tokens (map function_view fs)) (λ r. RefusesTokens unbuilt r name tokens)
 
-  pub content : (files : Change FilesSeen) (o : Result (List CoreFn) Refusal) → Reads files.old.held name tokens → Found o → MatchResult o (λ fs. IsSound files.old.held name (program_view [] fs)) (λ r. Refuses r files name)
-  content files (Ok fs) reads h = is_sound tokens (map function_view fs) h files.old.held name reads
+  pub content : (files : Change FilesSeen) (o : Result (List CoreFn) Refusal) → Reads files.old.held name tokens → Found o → MatchResult o (λ fs. IsSound unbuilt files.old.held name (program_view [] fs)) (λ r. Refuses unbuilt r files name)
+  content files (Ok fs) reads h = is_sound unbuilt tokens (map function_view fs) h files.old.held name reads
   content files (Err r) reads h = h files reads
 
   pub scalar : (o : Result (List CoreFn) Refusal) → Found o → IfOk o (λ fs. IsScalar (program_view [] fs))
-  scalar (Ok fs) h = is_scalar tokens (map function_view fs) h
+  scalar (Ok fs) h = is_scalar unbuilt tokens (map function_view fs) h
   scalar (Err r) h = tt
 
   pub shallow : (o : Result (List CoreFn) Refusal) → Found o → IfOk o (λ fs. IsShallow (program_view [] fs))
-  shallow (Ok fs) h = (is_small tokens (map function_view fs) h).0
+  shallow (Ok fs) h = (is_small unbuilt tokens (map function_view fs) h).0
   shallow (Err r) h = tt
 
   pub few : (o : Result (List CoreFn) Refusal) → Found o → IfOk o (λ fs. FewTemporaries (program_view [] fs))
-  few (Ok fs) h = (is_small tokens (map function_view fs) h).1
+  few (Ok fs) h = (is_small unbuilt tokens (map function_view fs) h).1
   few (Err r) h = tt

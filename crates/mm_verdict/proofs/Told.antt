@@ -16,6 +16,7 @@ use Rattle.mm_token.proofs.Levels.{tokens_once, fault_once, never_both}
 use Rattle.mm_parse_expr.specs.Longest.{place_of}
 use Rattle.mm_syntax.specs.declared.decl.Decl.{Decl}
 use Rattle.mm_syntax.specs.declared.decl.Unit.{Unit as UnitTree}
+use Rattle.mm_syntax.specs.declared.form.Forms.{Forms}
 use Rattle.mm_syntax.specs.Forms.{first_of, shown_unit}
 use Rattle.mm_syntax.specs.View.{unit_view}
 use Rattle.mm_parse_unit.specs.Units.{IsUnit, IsSyntaxFault}
@@ -27,7 +28,7 @@ use Rattle.mm_core.specs.Units.{Checked}
 use Rattle.mm_unit_typing.specs.JudgeUnit.{judge_unit}
 use Rattle.mm_unit_typing.proofs.Units.{unit_reads}
 use Rattle.mm_complete.specs.Complete.{lacking, signature}
-use Rattle.mm_verdict.specs.Verdict.{Verdict, Missing, Unread, Long, Faulty, Sound, IsRead, IsBuilt, IsTyped, IsSound, IsFaulty, HasVerdict, file_of, unbuilt_forms}
+use Rattle.mm_verdict.specs.Verdict.{Verdict, Missing, Unread, Long, Faulty, Sound, IsRead, IsBuilt, IsTyped, IsSound, IsFaulty, HasVerdict, file_of}
 use Rattle.mm_verdict.specs.declared.fault.Fault.{Fault}
 use Rattle.mm_verdict.specs.Laws.{IsByContents, OneVerdict}
 
@@ -66,14 +67,14 @@ abbrev by_first : List ℕ → List (List ℕ) → UnitTree → Option Place →
 by_first name files tree None = by_judged name files (judge_unit (unit_view tree))
 by_first name files tree (Some place) = fault N0 place (file_of files place) []
 
-abbrev by_tree : List ℕ → List (List ℕ) → UnitTree → Verdict
-by_tree name files tree = by_first name files tree (first_of unbuilt_forms (shown_unit tree).marks)
+abbrev by_tree : Forms → List ℕ → List (List ℕ) → UnitTree → Verdict
+by_tree unbuilt name files tree = by_first name files tree (first_of unbuilt (shown_unit tree).marks)
 
 same_trees : (d e : List Decl) (p q : Place) (f g : List (List ℕ)) (m n : ℕ) → d ≡ e → p ≡ q → f ≡ g → m ≡ n →
     ◌≡◌ {A = UnitTree} (record { decls = d; place = p; files = f; bytes = m }) (record { decls = e; place = q; files = g; bytes = n })
 same_trees d e p q f g m n a b c h = cc
 
-module _ (h : Contents) (name : List ℕ) where
+module _ (unbuilt : Forms) (h : Contents) (name : List ℕ) where
   -- how far the reading of the unit comes: no tokens, no tree, or a tree
   data Case : Type 0 where
     refused : (e : TokenEnd) → reading.IsByContents e → IsRefused (Some h) name e → Case
@@ -83,7 +84,7 @@ module _ (h : Contents) (name : List ℕ) where
   abbrev told : Case → Verdict
   told (refused e c r) = by_refusal e
   told (faulty t code place r f) = fault code place (file_of t.files place) []
-  told (treed t tree r) = by_tree name t.files tree
+  told (treed t tree r) = by_tree unbuilt name t.files tree
 
   fault_or_tree : (t u : Tokens) (tree : UnitTree) (code : Code) (place : Place) → Reads (Some h) name t → IsSyntaxFault t.list t.end code place → IsRead (Some h) name u tree → ⊥
   fault_or_tree t u tree code place r f x =
@@ -115,29 +116,29 @@ module _ (h : Contents) (name : List ℕ) where
   one_told (faulty t c p r f) (treed u b y) = absurd (fault_or_tree t u b c p r f y)
   one_told (treed t a x) (refused e k s) = absurd (never_both h name t e k x.reads s)
   one_told (treed t a x) (faulty u d q s g) = absurd (fault_or_tree u t a d q s g x)
-  one_told (treed t a x) (treed u b y) = let s = tokens_once h name t u x.reads y.reads in ap₂ (by_tree name) s.files (one_tree t u a b s x y)
+  one_told (treed t a x) (treed u b y) = let s = tokens_once h name t u x.reads y.reads in ap₂ (by_tree unbuilt name) s.files (one_tree t u a b s x y)
 
   -- The files tell this of the unit.
   abbrev Tells : Verdict → Type 0
   Tells v = (x : Case) × (told x ≡ v)
 
-  built_tells : (t : Tokens) (tree : UnitTree) (b : IsBuilt (Some h) name t tree) (r : Result Checked checks.Fault) → judge_unit (unit_view tree) ≡ r → told (treed t tree b.read) ≡ by_judged name t.files r
+  built_tells : (t : Tokens) (tree : UnitTree) (b : IsBuilt unbuilt (Some h) name t tree) (r : Result Checked checks.Fault) → judge_unit (unit_view tree) ≡ r → told (treed t tree b.read) ≡ by_judged name t.files r
   built_tells t tree b r j = ap (by_first name t.files tree) b.built ∙ ap (by_judged name t.files) j
 
-  typed_tells : (tree : UnitTree) (u : Checked) (x : IsTyped (Some h) name tree u) (o : Option Function) → lacking u.program.functions ≡ o → told (treed x.tokens tree x.built.read) ≡ by_lacking name u o
+  typed_tells : (tree : UnitTree) (u : Checked) (x : IsTyped unbuilt (Some h) name tree u) (o : Option Function) → lacking u.program.functions ≡ o → told (treed x.tokens tree x.built.read) ≡ by_lacking name u o
   typed_tells tree u x o l = built_tells x.tokens tree x.built (Ok u) ((unit_reads (unit_view tree)).types u x.typed) ∙ ap (by_lacking name u) l
 
-  complete_tells : (tree : UnitTree) (u : Checked) (x : IsTyped (Some h) name tree u) → lacking u.program.functions ≡ None → (b : Bool) → has_main u.program.functions ≡ b → told (treed x.tokens tree x.built.read) ≡ by_main name u.program b
+  complete_tells : (tree : UnitTree) (u : Checked) (x : IsTyped unbuilt (Some h) name tree u) → lacking u.program.functions ≡ None → (b : Bool) → has_main u.program.functions ≡ b → told (treed x.tokens tree x.built.read) ≡ by_main name u.program b
   complete_tells tree u x l b m = typed_tells tree u x None l ∙ ap (by_main name u.program) m
 
-  sound_tells : (p : Program) → IsSound (Some h) name p → Tells (Sound p)
+  sound_tells : (p : Program) → IsSound unbuilt (Some h) name p → Tells (Sound p)
   sound_tells p s =
       let fs = s.unit.program.functions in (
         treed s.typed.tokens s.tree s.typed.built.read,
         complete_tells s.tree s.unit s.typed s.complete.called true (lt-ltb (number_of_main fs) (length fs) s.complete.main) ∙ ap Sound (sym s.program),
       )
 
-  fault_tells : (f : Fault) → IsFaulty (Some h) name f → Tells (Faulty f)
+  fault_tells : (f : Fault) → IsFaulty unbuilt (Some h) name f → Tells (Faulty f)
   fault_tells f (inl (r, n)) = (refused (token_end.Fault f.code f.place f.file) tt r, fault_is f f.code f.place f.file [] refl refl refl n)
   fault_tells f (inr (inl (t, r, s, n, x))) = (faulty t f.code f.place r s, fault_is f f.code f.place (file_of t.files f.place) [] refl refl n x)
   fault_tells f (inr (inr (inl (t, tree, r, first, c, n, x)))) = (treed t tree r, ap (by_first name t.files tree) first ∙ fault_is f N0 f.place (file_of t.files f.place) [] c refl n x)
@@ -149,7 +150,7 @@ module _ (h : Contents) (name : List ℕ) where
       let fs = u.program.functions in
       (treed x.tokens tree x.built.read, complete_tells tree u x l false (false_from_ne_true (has_main fs) (λ e. m (ltb-true (number_of_main fs) (length fs) e))) ∙ fault_is f P5 unit_start name (codes "main") c p n t)
 
-  tells : (v : Verdict) → IsByContents v → HasVerdict (Some h) name v → Tells v
+  tells : (v : Verdict) → IsByContents v → HasVerdict unbuilt (Some h) name v → Tells v
   tells (Missing file) c (p, r) = (refused (token_end.Absent file p) tt r, refl)
   tells (Unread file) c r = absurd c
   tells (Long file) c r = (refused (token_end.TooLong file) tt r, refl)
@@ -157,7 +158,7 @@ module _ (h : Contents) (name : List ℕ) where
   tells (Sound p) c x = sound_tells p x
 
 pub one_verdict_only : OneVerdict
-one_verdict_only h name v w c d x y =
-    let s = tells h name v c x in
-    let t = tells h name w d y in
-    sym s.1 ∙ one_told h name s.0 t.0 ∙ t.1
+one_verdict_only unbuilt h name v w c d x y =
+    let s = tells unbuilt h name v c x in
+    let t = tells unbuilt h name w d y in
+    sym s.1 ∙ one_told unbuilt h name s.0 t.0 ∙ t.1

@@ -4,6 +4,7 @@ use Rattle.mm_base.specs.Outside.{FilesSeen}
 use Rattle.mm_token.specs.declared.token.Tokens.{Tokens}
 use Rattle.mm_token.specs.Tokens.{Reads}
 use Rattle.mm_syntax.specs.declared.decl.Unit.{Unit as UnitTree}
+use Rattle.mm_syntax.specs.declared.form.Forms.{Forms}
 use Rattle.mm_syntax.specs.Forms.{first_of, shown_unit}
 use Rattle.mm_syntax.specs.View.{unit_view}
 use Rattle.mm_parse_unit.specs.Units.{IsTreeOf}
@@ -16,55 +17,56 @@ use Rattle.mm_command.specs.Outside.{Change}
 use Rattle.mm_verdict.specs.declared.fault.Fault.{Fault}
 use Rattle.mm_verdict.specs.declared.fault.Refusal.{Refusal}
 use Rattle.mm_verdict.specs.declared.fault.Refusal.TheVariants as refusal
-use Rattle.mm_verdict.specs.Verdict.{Verdict, Missing, Unread, Long, Faulty, HasVerdict, HasCause, unbuilt_forms}
+use Rattle.mm_verdict.specs.Verdict.{Verdict, Missing, Unread, Long, Faulty, HasVerdict, HasCause}
 
 -- this is the verdict on the unit of the name, and the files show its cause
-abbrev pub IsVerdict : Change FilesSeen → List ℕ → Verdict → Type 0
-IsVerdict files name v = HasVerdict files.old.held name v × HasCause files v
+abbrev pub IsVerdict : Forms → Change FilesSeen → List ℕ → Verdict → Type 0
+IsVerdict unbuilt files name v = HasVerdict unbuilt files.old.held name v × HasCause files v
 
 -- a refusal is the verdict on the unit, unless memory ran out
-abbrev pub Refuses : Refusal → Change FilesSeen → List ℕ → Type 0
-Refuses (refusal.Missing file) files name = IsVerdict files name (Missing file)
-Refuses (refusal.Unread file) files name = IsVerdict files name (Unread file)
-Refuses (refusal.Long file) files name = IsVerdict files name (Long file)
-Refuses (refusal.Faulty f) files name = IsVerdict files name (Faulty f)
-Refuses refusal.NoMemory files name = Unit {0}
+abbrev pub Refuses : Forms → Refusal → Change FilesSeen → List ℕ → Type 0
+Refuses unbuilt (refusal.Missing file) files name = IsVerdict unbuilt files name (Missing file)
+Refuses unbuilt (refusal.Unread file) files name = IsVerdict unbuilt files name (Unread file)
+Refuses unbuilt (refusal.Long file) files name = IsVerdict unbuilt files name (Long file)
+Refuses unbuilt (refusal.Faulty f) files name = IsVerdict unbuilt files name (Faulty f)
+Refuses unbuilt refusal.NoMemory files name = Unit {0}
 
 -- a unit with these tokens is refused so
-abbrev pub RefusesTokens : Refusal → List ℕ → Tokens → Type 0
-RefusesTokens r name tokens =
-    (files : Change FilesSeen) → Reads files.old.held name tokens → Refuses r files name
+abbrev pub RefusesTokens : Forms → Refusal → List ℕ → Tokens → Type 0
+RefusesTokens unbuilt r name tokens =
+    (files : Change FilesSeen) → Reads files.old.held name tokens → Refuses unbuilt r files name
 
 -- the tree has no tree in it of a form that isn't built
-abbrev pub HasBuilt : UnitTree → Type 0
-HasBuilt tree = first_of unbuilt_forms (shown_unit tree).marks ≡ None
+abbrev pub HasBuilt : Forms → UnitTree → Type 0
+HasBuilt unbuilt tree = first_of unbuilt (shown_unit tree).marks ≡ None
 
 -- a unit with these tokens and this tree is refused so
-abbrev pub RefusesTree : Refusal → List ℕ → Tokens → UnitTree → Type 0
-RefusesTree r name tokens tree = IsTreeOf tokens tree → RefusesTokens r name tokens
+abbrev pub RefusesTree : Forms → Refusal → List ℕ → Tokens → UnitTree → Type 0
+RefusesTree unbuilt r name tokens tree = IsTreeOf tokens tree → RefusesTokens unbuilt r name tokens
 
 -- a unit with these tokens and this tree, all of whose forms are built, is refused so
-abbrev pub RefusesBuilt : Refusal → List ℕ → Tokens → UnitTree → Type 0
-RefusesBuilt r name tokens tree = HasBuilt tree → RefusesTree r name tokens tree
+abbrev pub RefusesBuilt : Forms → Refusal → List ℕ → Tokens → UnitTree → Type 0
+RefusesBuilt unbuilt r name tokens tree =
+    HasBuilt unbuilt tree → RefusesTree unbuilt r name tokens tree
 
 -- this fault, or memory ran out
 abbrev pub IsFaultOr : Refusal → Fault → Type 0
 IsFaultOr r f = (r ≡ refusal.Faulty f) ⊎ (r ≡ refusal.NoMemory)
 
 -- what stands in the trees of these tokens
-pub record IsUnitOf (tokens : Tokens) (tree : UnitTree) (unit : Checked) : Type 0 where
+pub record IsUnitOf (unbuilt : Forms) (tokens : Tokens) (tree : UnitTree) (unit : Checked) : Type 0 where
   pub is_tree : IsTreeOf tokens tree
-  pub built : HasBuilt tree
+  pub built : HasBuilt unbuilt tree
   pub typed : UnitTypes (unit_view tree) unit
 
 -- a unit that is checked as this is refused so
-abbrev pub RefusesUnit : Refusal → List ℕ → Checked → Type 0
-RefusesUnit r name unit =
-    (tokens : Tokens) (tree : UnitTree) → IsUnitOf tokens tree unit → RefusesTokens r name tokens
+abbrev pub RefusesUnit : Forms → Refusal → List ℕ → Checked → Type 0
+RefusesUnit unbuilt r name unit = (tokens : Tokens) (tree : UnitTree) →
+    IsUnitOf unbuilt tokens tree unit → RefusesTokens unbuilt r name tokens
 
 -- a unit with these tokens has these functions, and is complete
-pub record HasProgram (tokens : Tokens) (functions : List Function) : Type 0 where
+pub record HasProgram (unbuilt : Forms) (tokens : Tokens) (functions : List Function) : Type 0 where
   pub tree : UnitTree
-  pub unit : IsUnitOf tokens tree (unit_of (unit_view tree) functions)
+  pub unit : IsUnitOf unbuilt tokens tree (unit_of (unit_view tree) functions)
   pub complete : IsComplete functions
   pub numbers : DeclsInRange (unit_view tree).decls

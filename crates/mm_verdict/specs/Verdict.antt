@@ -37,11 +37,31 @@ pub data Verdict : Type 0 where
 abbrev pub file_of : List (List ℕ) → Place → List ℕ
 file_of files place = get_or files place.file []
 
--- the forms of trees that aren't built yet
-abbrev pub unbuilt_forms : Forms
-unbuilt_forms = record { scalars = false; objects = true; virtuals = true; opens = true; constructs = true; casts = true }
+-- ---- the forms of trees that aren't built yet
 
--- ---- how far a unit comes
+-- for `check`
+abbrev pub unbuilt_in_check : Forms
+unbuilt_in_check = record {
+  scalars = false;
+  objects = true;
+  virtuals = true;
+  opens = true;
+  constructs = true;
+  casts = true;
+}
+
+-- for `link`, and for `run`
+abbrev pub unbuilt_in_link : Forms
+unbuilt_in_link = record {
+  scalars = false;
+  objects = true;
+  virtuals = true;
+  opens = true;
+  constructs = true;
+  casts = true;
+}
+
+-- ---- how far a unit comes, where trees of some forms are unbuilt
 
 -- The files give a unit under the name, with these tokens and this tree. Files that don't tell what
 -- they hold give some.
@@ -50,21 +70,21 @@ pub record IsRead (held : Option Contents) (name : List ℕ) (tokens : Tokens) (
   pub is_tree : IsTreeOf tokens tree
 
 -- it is read, and no tree stands in it whose form isn't built
-pub record IsBuilt (held : Option Contents) (name : List ℕ) (tokens : Tokens) (tree : UnitTree) : Type 0 where
+pub record IsBuilt (unbuilt : Forms) (held : Option Contents) (name : List ℕ) (tokens : Tokens) (tree : UnitTree) : Type 0 where
   pub read : IsRead held name tokens tree
-  pub built : first_of unbuilt_forms (shown_unit tree).marks ≡ None
+  pub built : first_of unbuilt (shown_unit tree).marks ≡ None
 
 -- it is built, and typed as this
-pub record IsTyped (held : Option Contents) (name : List ℕ) (tree : UnitTree) (unit : Checked) : Type 0 where
+pub record IsTyped (unbuilt : Forms) (held : Option Contents) (name : List ℕ) (tree : UnitTree) (unit : Checked) : Type 0 where
   pub tokens : Tokens
-  pub built : IsBuilt held name tokens tree
+  pub built : IsBuilt unbuilt held name tokens tree
   pub typed : UnitTypes (unit_view tree) unit
 
 -- it is typed, and defines all that it calls, and `int main()`: this is its program
-pub record IsSound (held : Option Contents) (name : List ℕ) (p : Program) : Type 0 where
+pub record IsSound (unbuilt : Forms) (held : Option Contents) (name : List ℕ) (p : Program) : Type 0 where
   pub tree : UnitTree
   pub unit : Checked
-  pub typed : IsTyped held name tree unit
+  pub typed : IsTyped unbuilt held name tree unit
   pub complete : IsComplete unit.program.functions
   pub program : p ≡ unit.program
 
@@ -82,49 +102,50 @@ IsSyntactic held name f =
     × (f.file ≡ file_of tokens.files f.place) × (f.text ≡ [])
 
 -- A tree stands in the unit whose form isn't built, the first of them here.
-abbrev pub IsUnbuilt : Option Contents → List ℕ → Fault → Type 0
-IsUnbuilt held name f =
+abbrev pub IsUnbuilt : Forms → Option Contents → List ℕ → Fault → Type 0
+IsUnbuilt unbuilt held name f =
     (tokens : Tokens) × (tree : UnitTree) × IsRead held name tokens tree
-    × (first_of unbuilt_forms (shown_unit tree).marks ≡ Some f.place) × (f.code ≡ N0)
+    × (first_of unbuilt (shown_unit tree).marks ≡ Some f.place) × (f.code ≡ N0)
     × (f.file ≡ file_of tokens.files f.place) × (f.text ≡ [])
 
 -- The unit isn't typed: it has a first fault.
-abbrev pub IsIllTyped : Option Contents → List ℕ → Fault → Type 0
-IsIllTyped held name f =
-    (tokens : Tokens) × (tree : UnitTree) × IsBuilt held name tokens tree
+abbrev pub IsIllTyped : Forms → Option Contents → List ℕ → Fault → Type 0
+IsIllTyped unbuilt held name f =
+    (tokens : Tokens) × (tree : UnitTree) × IsBuilt unbuilt held name tokens tree
     × UnitFaults (unit_view tree) (at f.code f.place f.text)
     × (f.file ≡ file_of tokens.files f.place)
 
 -- A function is called and not defined: the first of these, where it is declared first.
-abbrev pub IsUndefined : Option Contents → List ℕ → Fault → Type 0
-IsUndefined held name f =
-    (tree : UnitTree) × (unit : Checked) × IsTyped held name tree unit
+abbrev pub IsUndefined : Forms → Option Contents → List ℕ → Fault → Type 0
+IsUndefined unbuilt held name f =
+    (tree : UnitTree) × (unit : Checked) × IsTyped unbuilt held name tree unit
     × (g : Function) × (lacking unit.program.functions ≡ Some g) × (f.code ≡ P4)
     × (f.place ≡ g.place) × (f.file ≡ file_of unit.files g.place)
     × (f.text ≡ signature unit.program.classes g)
 
 -- None is, and no `int main()` is defined; at 1:1 of the unit.
-abbrev pub IsMainless : Option Contents → List ℕ → Fault → Type 0
-IsMainless held name f =
-    (tree : UnitTree) × (unit : Checked) × IsTyped held name tree unit
+abbrev pub IsMainless : Forms → Option Contents → List ℕ → Fault → Type 0
+IsMainless unbuilt held name f =
+    (tree : UnitTree) × (unit : Checked) × IsTyped unbuilt held name tree unit
     × (lacking unit.program.functions ≡ None) × (HasMain unit.program.functions → ⊥)
     × (f.code ≡ P5) × (f.place ≡ unit_start) × (f.file ≡ name) × (f.text ≡ codes "main")
 
 -- the unit's first listed fault
-abbrev pub IsFaulty : Option Contents → List ℕ → Fault → Type 0
-IsFaulty held name f =
-    IsLexical held name f ⊎ IsSyntactic held name f ⊎ IsUnbuilt held name f
-    ⊎ IsIllTyped held name f ⊎ IsUndefined held name f ⊎ IsMainless held name f
+abbrev pub IsFaulty : Forms → Option Contents → List ℕ → Fault → Type 0
+IsFaulty unbuilt held name f =
+    IsLexical held name f ⊎ IsSyntactic held name f ⊎ IsUnbuilt unbuilt held name f
+    ⊎ IsIllTyped unbuilt held name f ⊎ IsUndefined unbuilt held name f
+    ⊎ IsMainless unbuilt held name f
 
 -- ---- verdicts
 
--- the verdict on the unit of a name; a read may fail at any file
-abbrev pub HasVerdict : Option Contents → List ℕ → Verdict → Type 0
-HasVerdict held name (Missing file) = (p : Place) × IsRefused held name (token_end.Absent file p)
-HasVerdict held name (Unread file) = IsRefused held name (token_end.Failed file)
-HasVerdict held name (Long file) = IsRefused held name (token_end.TooLong file)
-HasVerdict held name (Faulty f) = IsFaulty held name f
-HasVerdict held name (Sound p) = IsSound held name p
+-- the verdict on the unit of a name, by the forms that are unbuilt; a read may fail at any file
+abbrev pub HasVerdict : Forms → Option Contents → List ℕ → Verdict → Type 0
+HasVerdict unbuilt held name (Missing file) = (p : Place) × IsRefused held name (token_end.Absent file p)
+HasVerdict unbuilt held name (Unread file) = IsRefused held name (token_end.Failed file)
+HasVerdict unbuilt held name (Long file) = IsRefused held name (token_end.TooLong file)
+HasVerdict unbuilt held name (Faulty f) = IsFaulty unbuilt held name f
+HasVerdict unbuilt held name (Sound p) = IsSound unbuilt held name p
 
 -- What the counts of files show of it. Of files that don't tell what they hold, a missing one is
 -- counted as a fault, and one past the limit as that many bytes.

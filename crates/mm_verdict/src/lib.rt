@@ -2,5 +2,6 @@
 #![tactic(auto)]
 
 pub mod fault;
+pub mod forms;
 pub mod law;
 pub mod unit;

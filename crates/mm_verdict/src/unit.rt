@@ -10,7 +10,8 @@ ghost use Rattle.mm_simulate.specs.Simulates.{IsScalar, IsShallow};
 ghost use Rattle.mm_lower.specs.Written.{FewTemporaries};
 ghost use Rattle.mm_unit_typing.specs.Units.{UnitTypes, unit_of};
 ghost use Rattle.mm_complete.specs.Complete.{IsComplete};
-ghost use Rattle.mm_verdict.specs.Verdict.{IsSound, file_of, unbuilt_forms};
+ghost use Rattle.mm_syntax.specs.declared.form.Forms as form_set;
+ghost use Rattle.mm_verdict.specs.Verdict.{IsSound, file_of};
 ghost use Rattle.mm_verdict.specs.Refusals.{Refuses, RefusesTokens, RefusesTree, RefusesBuilt, RefusesUnit, HasBuilt, HasProgram, IsFaultOr};
 
 use crate::fault::{Fault, Refusal};
@@ -90,7 +91,8 @@ fn lexical(alloc: Global, code: Code, place: Place, file: Text) -> Refusal
 
 // The tokens of a unit.
 fn read<F: Files>(alloc: Global, name: &str, files: &mut F) -> Result<Tokens, Refusal>
-    ensures content { MatchResult result (Reads (F.seen files.old).held name.now) (λ r. Refuses r
+    ensures content { MatchResult result (Reads (F.seen files.old).held name.now)
+        (λ r. (unbuilt : form_set.Forms) → Refuses unbuilt r
         (record { old = F.seen files.old; new = F.seen files.new }) name.now) }
     ensures kept { AreKept (F.seen files.old) (F.seen files.new) }
 {
@@ -106,7 +108,8 @@ fn read<F: Files>(alloc: Global, name: &str, files: &mut F) -> Result<Tokens, Re
 
 // The tree of these tokens.
 fn parse(alloc: Global, name: &str, tokens: &Tokens) -> Result<Unit, Refusal>
-    ensures { MatchResult result (IsTreeOf tokens.now) (λ r. RefusesTokens r name.now tokens.now) }
+    ensures { MatchResult result (IsTreeOf tokens.now)
+        (λ r. (unbuilt : form_set.Forms) → RefusesTokens unbuilt r name.now tokens.now) }
 {
     match unit(alloc, tokens) {
         Ok(tree) => Ok(tree),
@@ -117,25 +120,18 @@ fn parse(alloc: Global, name: &str, tokens: &Tokens) -> Result<Unit, Refusal>
     }
 }
 
-// The forms of trees that aren't built yet.
-fn unbuilt() -> Forms
-    ensures { result ≡ unbuilt_forms }
-{
-    Forms {
-        scalars: false,
-        objects: true,
-        virtuals: true,
-        opens: true,
-        constructs: true,
-        casts: true,
-    }
-}
-
 // Refuses the first tree of a form that isn't built.
-fn refuse_unbuilt(alloc: Global, name: &str, tokens: &Tokens, tree: &Unit) -> Result<(), Refusal>
-    ensures { MatchResult result (λ _. HasBuilt tree.now) (λ r. RefusesTree r name.now tokens.now tree.now) }
+fn refuse_unbuilt(
+    alloc: Global,
+    name: &str,
+    unbuilt: Forms,
+    tokens: &Tokens,
+    tree: &Unit,
+) -> Result<(), Refusal>
+    ensures { MatchResult result (λ _. HasBuilt unbuilt tree.now)
+        (λ r. RefusesTree unbuilt r name.now tokens.now tree.now) }
 {
-    match walk_any(tree, unbuilt()) {
+    match walk_any(tree, unbuilt) {
         Some(place) => Err(fault(alloc, Code::N0, place, tokens.files.as_slice(), "")),
         None => Ok(()),
     }
@@ -150,7 +146,7 @@ fn check_tree(
 ) -> Result<Items<CoreFn>, Refusal>
     ensures { MatchResult result
         (λ fs. UnitTypes (unit_view tree.now) (unit_of (unit_view tree.now) (map function_view fs)))
-        (λ r. RefusesBuilt r name.now tokens.now tree.now) }
+        (λ r. (unbuilt : form_set.Forms) → RefusesBuilt unbuilt r name.now tokens.now tree.now) }
 {
     match check(alloc, tree) {
         Ok(functions) => Ok(functions),
@@ -181,7 +177,8 @@ fn refuse_incomplete(
     functions: &[CoreFn],
 ) -> Result<(), Refusal>
     ensures { MatchResult result (λ _. IsComplete (map function_view functions.now))
-        (λ r. RefusesUnit r name.now (unit_of (unit_view tree.now) (map function_view functions.now))) }
+        (λ r. (unbuilt : form_set.Forms) → RefusesUnit unbuilt r name.now
+        (unit_of (unit_view tree.now) (map function_view functions.now))) }
 {
     match lacking(alloc, functions)? {
         Some(lack) => {
@@ -194,12 +191,17 @@ fn refuse_incomplete(
 }
 
 // The functions of a unit with these tokens.
-fn check_tokens(alloc: Global, name: &str, tokens: &Tokens) -> Result<Items<CoreFn>, Refusal>
-    ensures { MatchResult result (λ fs. HasProgram tokens.now (map function_view fs))
-        (λ r. RefusesTokens r name.now tokens.now) }
+fn check_tokens(
+    alloc: Global,
+    name: &str,
+    unbuilt: Forms,
+    tokens: &Tokens,
+) -> Result<Items<CoreFn>, Refusal>
+    ensures { MatchResult result (λ fs. HasProgram unbuilt tokens.now (map function_view fs))
+        (λ r. RefusesTokens unbuilt r name.now tokens.now) }
 {
     let tree = parse(alloc, name, tokens)?;
-    refuse_unbuilt(alloc, name, tokens, &tree)?;
+    refuse_unbuilt(alloc, name, unbuilt, tokens, &tree)?;
     let functions = check_tree(alloc, name, tokens, &tree)?;
     refuse_incomplete(alloc, name, &tree, functions.as_slice())?;
     read_numbers(&tree);
@@ -207,19 +209,21 @@ fn check_tokens(alloc: Global, name: &str, tokens: &Tokens) -> Result<Items<Core
 }
 
 /// The checked program of the unit of a name, which can be translated; or why there is none.
+/// Trees of the unbuilt forms are refused by `N0`.
 pub fn sound_unit<F: Files>(
     alloc: Global,
     name: &str,
+    unbuilt: Forms,
     files: &mut F,
 ) -> Result<Items<CoreFn>, Refusal>
     ensures content { MatchResult result
-        (λ fs. IsSound (F.seen files.old).held name.now (program_view [] fs))
-        (λ r. Refuses r (record { old = F.seen files.old; new = F.seen files.new }) name.now) }
+        (λ fs. IsSound unbuilt (F.seen files.old).held name.now (program_view [] fs))
+        (λ r. Refuses unbuilt r (record { old = F.seen files.old; new = F.seen files.new }) name.now) }
     ensures scalar { IfOk result (λ fs. IsScalar (program_view [] fs)) }
     ensures shallow { IfOk result (λ fs. IsShallow (program_view [] fs)) }
     ensures few { IfOk result (λ fs. FewTemporaries (program_view [] fs)) }
     ensures kept { AreKept (F.seen files.old) (F.seen files.new) }
 {
     let tokens = read(alloc, name, files)?;
-    check_tokens(alloc, name, &tokens)
+    check_tokens(alloc, name, unbuilt, &tokens)
 }

@@ -1,4 +1,4 @@
-use Rattle.std.proofs.Common.{◌∙◌, sym, ap, Some, arith, map, drop, ◌∷◌, ◌+◌}
+use Rattle.std.proofs.Common.{◌∙◌, sym, ap, Some, map, drop, ◌∷◌, ◌+◌}
 use Rattle.std.specs.Prelude.{string_bytes}
 use Rattle.mm_command.specs.Command.{goes_on}
 use Rattle.mm_command.proofs.Telling.{words_from}

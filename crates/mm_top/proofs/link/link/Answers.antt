@@ -5,7 +5,8 @@ use Rattle.mm_command.specs.declared.words.Command.TheVariants.{Link}
 use Rattle.mm_command.specs.Outside.{Change}
 use Rattle.mm_command.specs.Due.{Translated}
 use Rattle.mm_command.specs.Writing.{IsOutcome}
-use Rattle.mm_verdict.specs.Verdict.{IsSound}
+use Rattle.mm_verdict.specs.Verdict.{IsSound, unbuilt_in_link}
+use Rattle.mm_verdict.specs.Refusals.{Refuses}
 use Rattle.mm_top.specs.Steps.{ComesTo, IsRefusal}
 use Rattle.mm_top.proofs.Known.{if_ok}
 use Rattle.mm_top.proofs.Commands.{linked, link_refused}
@@ -14,15 +15,17 @@ use Rattle.mm_top.proofs.link.link.Goals as goal
 pub returns-in-Ok-clause-content : goal.returns-in-Ok-clause-content
 returns-in-Ok-clause-content g c =
     let files : Change FilesSeen = record { old = g.F.Files.seen c.args.files.now; new = g.F.Files.seen c.sound_unit.new.files } in
+    let sound = subst (λ u. IsSound u files.old.held c.args.name.now (program_view [] c.in-Ok.functions)) c.unbuilt_in_link.ensures c.in-Ok.ensures.content in
     if_ok (λ x. IsOutcome (Translated (program_view [] c.as_slice.result.now)) x)
     (λ x. (input : Change SourceSeen) → ComesTo (Some (Link c.args.name.now)) files input x) c.translated.result
-    (λ x o input. linked files input c.args.name.now x (program_view [] c.as_slice.result.now) (subst (λ fs. IsSound (g.F.Files.seen c.args.files.now).held c.args.name.now (program_view [] fs)) (sym c.as_slice.ensures) c.in-Ok.ensures.content) o)
+    (λ x o input. linked files input c.args.name.now x (program_view [] c.as_slice.result.now) (subst (λ fs. IsSound unbuilt_in_link files.old.held c.args.name.now (program_view [] fs)) (sym c.as_slice.ensures) sound) o)
     c.translated.ensures
 
 pub returns-in-Err-clause-content : goal.returns-in-Err-clause-content
 returns-in-Err-clause-content g c =
     let files : Change FilesSeen = record { old = g.F.Files.seen c.args.files.now; new = g.F.Files.seen c.sound_unit.new.files } in
+    let refuses = subst (λ u. Refuses u c.in-Err.reason files c.args.name.now) c.unbuilt_in_link.ensures c.in-Err.ensures.content in
     if_ok (λ x. IsRefusal c.in-Err.reason x)
     (λ x. (input : Change SourceSeen) → ComesTo (Some (Link c.args.name.now)) files input x) c.refused.result
-    (λ x o input. link_refused files input c.args.name.now x c.in-Err.reason c.in-Err.ensures.content o)
+    (λ x o input. link_refused files input c.args.name.now x c.in-Err.reason refuses o)
     c.refused.ensures

@@ -12,7 +12,7 @@ returns-in-Some c =
     let lack = c.in-Some.lack in
     let in_files = subst (λ fs. IsFaultOr c.fault.result (record { code = P4; place = lack.place; file = file_of fs lack.place; text = c.as_str.result.now })) c.as_slice-files.ensures c.fault.ensures in
     let is = subst (λ t. IsFaultOr c.fault.result (record { code = P4; place = lack.place; file = file_of c.args.tree.now.files lack.place; text = t })) c.as_str.ensures in_files in
-    undefined c.fault.result c.args.name.now c.args.tree.now (map function_view c.args.functions.now) lack (sym c.in-Some.is ∙ c.in_ok-lack.ensures) is
+    λ unbuilt. undefined unbuilt c.fault.result c.args.name.now c.args.tree.now (map function_view c.args.functions.now) lack (sym c.in-Some.is ∙ c.in_ok-lack.ensures) is
 
 pub returns-in-None : goal.returns-in-None
 returns-in-None c = record {
@@ -23,4 +23,4 @@ returns-in-None c = record {
 pub returns-in-None-2 : goal.returns-in-None-2
 returns-in-None-2 c =
     let without : HasMain (map function_view c.args.functions.now) → ⊥ = λ main. not_both_ways c.has_main.result c.if-has_main.false (c.has_main.ensures.1 main) in
-    mainless c.mainless.result c.args.name.now c.args.tree.now (map function_view c.args.functions.now) (sym c.in-None-2.is ∙ c.in_ok-lack.ensures) without c.mainless.ensures
+    λ unbuilt. mainless unbuilt c.mainless.result c.args.name.now c.args.tree.now (map function_view c.args.functions.now) (sym c.in-None-2.is ∙ c.in_ok-lack.ensures) without c.mainless.ensures
