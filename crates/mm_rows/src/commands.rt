@@ -35,6 +35,11 @@ const LINK: Row = Row {
     ..RUN
 };
 
+const CHECK: Row = Row {
+    words: &["check", "m.cc"],
+    ..RUN
+};
+
 const EXEC: Row = Row {
     words: &["exec", "x.c"],
     file: "x.c",
@@ -349,6 +354,86 @@ const REFUSED: [Row; 16] = [
     },
 ];
 
+const CHECKS: [Row; 13] = [
+    Row {
+        text: "int main() { mm_put(1 + 2); return 0; }",
+        out: "ok\n",
+        ..CHECK
+    },
+    Row {
+        text: OVERFLOW,
+        input: "x\n",
+        out: "ok\n",
+        ..CHECK
+    },
+    Row {
+        words: &["check", "--", "-m.cc"],
+        file: "-m.cc",
+        text: FOR_EVER,
+        out: "ok\n",
+        ..CHECK
+    },
+    Row {
+        text: "int f(int);\nint main() { return f(1); }",
+        status: 1,
+        err: "m.cc:1:5: P4 f(int)\n",
+        ..CHECK
+    },
+    Row {
+        status: 1,
+        err: "m.cc:1:1: P5 main\n",
+        ..CHECK
+    },
+    Row {
+        text: "#include \"a.h\"\nint main() {}",
+        status: 3,
+        err: "mmc: no file a.h\n",
+        ..CHECK
+    },
+    Row {
+        words: &["check", "n.cc"],
+        status: 3,
+        err: "mmc: no file n.cc\n",
+        ..CHECK
+    },
+    Row {
+        words: &["check"],
+        status: 2,
+        err: "mmc: usage\n",
+        ..CHECK
+    },
+    Row {
+        words: &["check", "m.cc", "n.cc"],
+        status: 2,
+        err: "mmc: usage\n",
+        ..CHECK
+    },
+    Row {
+        words: &["check", "m.cc", "--steps=1"],
+        status: 2,
+        err: "mmc: usage\n",
+        ..CHECK
+    },
+    Row {
+        words: &["check", "--help"],
+        status: 2,
+        err: "mmc: usage\n",
+        ..CHECK
+    },
+    Row {
+        words: &["check", "m.mmu"],
+        status: 2,
+        err: "mmc: usage\n",
+        ..CHECK
+    },
+    Row {
+        words: &["checks", "m.cc"],
+        status: 2,
+        err: "mmc: usage\n",
+        ..CHECK
+    },
+];
+
 fn all_are(rt: &impl Abort, alloc: Global, rows: &[Row]) -> Result<(), Fail> {
     for row in rows {
         let o = come_of(alloc, row)?;
@@ -447,17 +532,20 @@ const FAULTS: [(&str, &str); 27] = [
 #[test]
 fn first_faults_are_told(rt: HostRuntime) -> Result<(), Fail> {
     for (text, message) in FAULTS {
-        let o = come_of(rt.alloc(), &Row { text, ..LINK })?;
-        assert_eq!(rt; o.status, 1);
-        assert!(rt; o.out.is_empty());
-        assert_eq!(rt; o.err.as_slice(), message.as_bytes());
+        for row in [LINK, CHECK] {
+            let o = come_of(rt.alloc(), &Row { text, ..row })?;
+            assert_eq!(rt; o.status, 1);
+            assert!(rt; o.out.is_empty());
+            assert_eq!(rt; o.err.as_slice(), message.as_bytes());
+        }
     }
     Ok(())
 }
 
 #[test]
-fn refusals_have_their_statuses(rt: HostRuntime) -> Result<(), Fail> {
+fn commands_have_their_statuses(rt: HostRuntime) -> Result<(), Fail> {
     all_are(&rt, rt.alloc(), &REFUSED)?;
+    all_are(&rt, rt.alloc(), &CHECKS)?;
     all_are(&rt, rt.alloc(), &TEXTS)
 }
 
