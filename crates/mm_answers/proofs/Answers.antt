@@ -37,7 +37,7 @@ module _ (g : List Class) (ok : IsClassList g) where
   incomplete_collapses f n q a e (at_once u) = step_none f n q a u
   incomplete_collapses f n q a e (by_base r p s ne t w m l) = absurd (ne (itself_alone g ok n e r s))
 
-  collapses : (f : Option ℕ) (n : ℕ) (q : Path) (a : Access) → MayUse g f n q a → IsCollapsed g f n q a
+  pub collapses : (f : Option ℕ) (n : ℕ) (q : Path) (a : Access) → MayUse g f n q a → IsCollapsed g f n q a
   collapses f n q a m = elim (complete_or g n) [
     | inl k ↦ collapse g ok (has_access g ok) f n q a k m
     | inr e ↦ incomplete_collapses f n q a e m

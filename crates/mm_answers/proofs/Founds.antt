@@ -117,17 +117,23 @@ module _ (g : List Class) (ok : IsClassList g) where
     left_test n = like (declares g c name n && not (is_hidden g c (declaring g c name) n)) to back
         (of_and (declares g c name n) (not (is_hidden g c (declaring g c name) n)) (declares_test n)
         (of_not (is_hidden g c (declaring g c name) n) (hidden_test n))) where
-      to : Declares g c name n × (((m : ℕ) × Has (declaring g c name) m × Hides n m) → ⊥) → IsLeft g c (Declares g c name) n
-      to p = (p.0, λ m l q w. elim (eqb_tells m n) [
-        | inl y ↦ y.1
-        | inr ne ↦ absurd (p.1 (m, passes (declares g c name) (range_with_len 0 (length (subobjects_of g c))) m (range_has 0 (length (subobjects_of g c)) m (omega arith) (omega arith)) ((declares_test m).1 q), (ne.1, w)))
-      ])
+          to : Declares g c name n × (((m : ℕ) × Has (declaring g c name) m × Hides n m) → ⊥) → IsLeft g c (Declares g c name) n
+          to p = (
+            p.0,
+            λ m l q w. elim (eqb_tells m n) [
+              | inl y ↦ y.1
+              | inr ne ↦ absurd (p.1 (m, passes (declares g c name) (range_with_len 0 (length (subobjects_of g c))) m (range_has 0 (length (subobjects_of g c)) m (omega arith) (omega arith)) ((declares_test m).1 q), (ne.1, w)))
+            ],
+          )
 
-      back : IsLeft g c (Declares g c name) n → Declares g c name n × (((m : ℕ) × Has (declaring g c name) m × Hides n m) → ⊥)
-      back p = (p.0, λ h.
-          let r = passed (declares g c name) (range_with_len 0 (length (subobjects_of g c))) h.1 in
-          let l = (has_range 0 (length (subobjects_of g c)) r.0).1 in
-          h.2.0 (p.1 h.0 (omega arith) ((declares_test h.0).0 r.1) h.2.1))
+          back : IsLeft g c (Declares g c name) n → Declares g c name n × (((m : ℕ) × Has (declaring g c name) m × Hides n m) → ⊥)
+          back p = (
+            p.0,
+            λ h.
+                let r = passed (declares g c name) (range_with_len 0 (length (subobjects_of g c))) h.1 in
+                let l = (has_range 0 (length (subobjects_of g c)) r.0).1 in
+                h.2.0 (p.1 h.0 (omega arith) ((declares_test h.0).0 r.1) h.2.1),
+          )
 
     picks_left : Picks (only (left g c name)) (IsLeft g c (Declares g c name)) (length (subobjects_of g c))
     picks_left = only_picks (λ n. declares g c name n && not (is_hidden g c (declaring g c name) n)) (IsLeft g c (Declares g c name)) (length (subobjects_of g c)) (λ n l. left_test n)

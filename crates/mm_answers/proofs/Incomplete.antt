@@ -1,6 +1,7 @@
 -- A class that is not complete has one subobject, itself.
 use Rattle.std.proofs.Common.{◌≡◌, ℕ, zero, suc, List, [], ◌∷◌, length, refl, sym, subst, ap, ◌∙◌, inl, inr}
-use Rattle.std.specs.Prelude.{true, false, ◌⊎◌, ◌++◌}
+use Rattle.std.specs.Prelude.{Bool, true, false, ◌⊎◌, ◌++◌}
+use Rattle.std.specs.Bool.{Decides}
 use Rattle.std.specs.List.{flat_map}
 use Rattle.mm_classes.specs.declared.class.Base.{Base}
 use Rattle.mm_classes.specs.Classes.{Class, class_at, bases_of, members_of, IsClassList, IsComplete}
@@ -50,3 +51,8 @@ module _ (g : List Class) (ok : IsClassList g) (c : ℕ) (e : (class_at g c).com
 
   pub one_node : subobjects_of g c ≡ (c ∷ []) ∷ []
   one_node = rw (chain_alone (length g), walk_none (length g)) refl
+
+-- what the test says
+pub unknown : (g : List Class) (c : ℕ) (r : Bool) → Decides r (IsComplete g c) → r ≡ false
+    → (class_at g c).complete ≡ false
+unknown g c r d e = not_complete g c (λ k. let z : true ≡ false = sym (d.1 k) ∙ e in cc)

@@ -6,3 +6,4 @@ pub mod Links
 pub mod Uses
 pub mod Incomplete
 pub mod Answers
+pub mod Cases

@@ -20,9 +20,9 @@ only-passing : (test : ℕ → Bool) (n : ℕ) → only (passing test (suc n)) �
 only-passing test n =
     ap (λ ns. only (filter test ns)) (range_more 0 n ∙ ap (λ (m : ℕ). range_with_len 0 n ++ m ∷ []) (omega arith))
     ∙ (ap only (filter-append test (range_with_len 0 n) (n ∷ [])) ∙ last (test n)) where
-  last : (b : Bool) → only (passing test n ++ cond b (n ∷ []) []) ≡ picked (only (passing test n)) n b
-  last true = only-more (passing test n) n
-  last false = ap only (append-nil (passing test n))
+      last : (b : Bool) → only (passing test n ++ cond b (n ∷ []) []) ≡ picked (only (passing test n)) n b
+      last true = only-more (passing test n) n
+      last false = ap only (append-nil (passing test n))
 
 -- it is the one that the property has
 pub only_picks : (test : ℕ → Bool) (P : ℕ → Type 0) (n : ℕ) → ((m : ℕ) → m < n → Decides (test m) (P m)) → Picks (only (passing test n)) P n

@@ -43,13 +43,13 @@ pub of_any : {X : Type 0} (test : X → Bool) (P : X → Type 0) (xs : List X)
 of_any {X = X} test P [] d = ((λ e. absurd (differ e)), λ h. elim h.1 [ ])
 of_any {X = X} test P (y ∷ xs) d = like (test y || list_any test xs) to back
     (of_or (test y) (list_any test xs) (d y (first refl)) (of_any test P xs (λ x h. d x (later h)))) where
-  to : P y ⊎ ((x : X) × Has xs x × P x) → (x : X) × Has (y ∷ xs) x × P x
-  to (inl p) = (y, first refl, p)
-  to (inr r) = (r.0, later r.1, r.2)
+      to : P y ⊎ ((x : X) × Has xs x × P x) → (x : X) × Has (y ∷ xs) x × P x
+      to (inl p) = (y, first refl, p)
+      to (inr r) = (r.0, later r.1, r.2)
 
-  back : ((x : X) × Has (y ∷ xs) x × P x) → P y ⊎ ((x : X) × Has xs x × P x)
-  back (x, first e, p) = inl (subst P (sym e) p)
-  back (x, later h, p) = inr (x, h, p)
+      back : ((x : X) × Has (y ∷ xs) x × P x) → P y ⊎ ((x : X) × Has xs x × P x)
+      back (x, first e, p) = inl (subst P (sym e) p)
+      back (x, later h, p) = inr (x, h, p)
 
 -- the elements that pass
 pub passed : {X : Type 0} (test : X → Bool) (xs : List X) {x : X} → Has (filter test xs) x
@@ -77,7 +77,6 @@ pub range_more : (a n : ℕ) → range_with_len a (suc n) ≡ range_with_len a n
 range_more a zero = ap (λ (m : ℕ). m ∷ []) (omega arith)
 range_more a (suc n) = ap (λ ms. a ∷ ms)
     (range_more (a + 1) n ∙ ap (λ (m : ℕ). range_with_len (a + 1) n ++ m ∷ []) (omega arith))
-
 
 -- a number of a range
 pub range_has : (a n m : ℕ) → a ≤ m → m < a + n → Has (range_with_len a n) m
