@@ -7,3 +7,4 @@ pub mod Uses
 pub mod Incomplete
 pub mod Answers
 pub mod Cases
+pub mod Examples
