@@ -1,6 +1,6 @@
 -- The answers are those of the definitions.
-use Rattle.std.proofs.Common.{◌≡◌, ℕ, List, [], ◌∷◌, refl, subst, ap, inl, inr}
-use Rattle.std.specs.Prelude.{Bool, false, ◌&&◌, Option}
+use Rattle.std.proofs.Common.{◌≡◌, ℕ, List, [], ◌∷◌, refl, inl, inr}
+use Rattle.std.specs.Prelude.{false, Option}
 use Rattle.std.specs.Bool.{Decides}
 use Rattle.mm_classes.specs.declared.class.Access.{Access}
 use Rattle.mm_classes.specs.declared.class.Access.TheVariants.{Public}
@@ -22,7 +22,8 @@ use Rattle.mm_answers.proofs.Uses.{steps_test, reached_test}
 
 module _ (g : List Class) (ok : IsClassList g) where
   -- no step at all
-  step_none : (f : Option ℕ) (n : ℕ) (q : Path) (a : Access) → UsesAt g f n q a → IsCollapsed g f n q a
+  step_none : (f : Option ℕ) (n : ℕ) (q : Path) (a : Access) → UsesAt g f n q a
+      → IsCollapsed g f n q a
   step_none f n q a u = record {
     step = n ∷ [];
     rest = q;
@@ -33,27 +34,36 @@ module _ (g : List Class) (ok : IsClassList g) where
     uses = u;
   }
 
-  incomplete_collapses : (f : Option ℕ) (n : ℕ) (q : Path) (a : Access) → (class_at g n).complete ≡ false → MayUse g f n q a → IsCollapsed g f n q a
+  incomplete_collapses : (f : Option ℕ) (n : ℕ) (q : Path) (a : Access)
+      → (class_at g n).complete ≡ false → MayUse g f n q a → IsCollapsed g f n q a
   incomplete_collapses f n q a e (at_once u) = step_none f n q a u
-  incomplete_collapses f n q a e (by_base r p s ne t w m l) = absurd (ne (itself_alone g ok n e r s))
+  incomplete_collapses f n q a e (by_base r p s ne t w m l) = absurd (ne (itself_alone g ok n e r
+      s))
 
-  pub collapses : (f : Option ℕ) (n : ℕ) (q : Path) (a : Access) → MayUse g f n q a → IsCollapsed g f n q a
+  pub collapses : (f : Option ℕ) (n : ℕ) (q : Path) (a : Access) → MayUse g f n q a
+      → IsCollapsed g f n q a
   collapses f n q a m = elim (complete_or g n) [
     | inl k ↦ collapse g ok (has_access g ok) f n q a k m
     | inr e ↦ incomplete_collapses f n q a e m
   ]
 
-  pub may_use_is : (f : Option ℕ) (n k : ℕ) (a : Access) → Decides (may_use_of g f n k a) (MayUse g f n (node g n k) a)
+  pub may_use_is : (f : Option ℕ) (n k : ℕ) (a : Access) → Decides (may_use_of g f n k a)
+      (MayUse g f n (node g n k) a)
   unfolding may_use_of
-  may_use_is f n k a = like (may_use_of g f n k a) (uncollapse g ok (has_access g ok) f n (node g n k) a) (collapses f n (node g n k) a)
+  may_use_is f n k a = like (may_use_of g f n k a) (uncollapse g ok (has_access g ok) f n
+      (node g n k) a) (collapses f n (node g n k) a)
       (steps_test g ok f n (node g n k) a)
 
-  pub allowed_is : (f : Option ℕ) (n k m x : ℕ) → Decides (is_allowed g f n k m x) (IsAllowed g f n (node g n k) m x)
+  pub allowed_is : (f : Option ℕ) (n k m x : ℕ) → Decides (is_allowed g f n k m x) (IsAllowed g f n
+      (node g n k) m x)
   unfolding is_allowed
-  allowed_is f n k m x = of_and (is_reached g f (declared_access g (node g n k) m) (end_of (node g n k)) x) (may_use_of g f n k (declared_access g (node g n k) m))
-      (reached_test g ok f (declared_access g (node g n k) m) (end_of (node g n k)) x) (may_use_is f n k (declared_access g (node g n k) m))
+  allowed_is f n k m x = of_and (is_reached g f (declared_access g (node g n k) m) (end_of
+      (node g n k)) x) (may_use_of g f n k (declared_access g (node g n k) m))
+      (reached_test g ok f (declared_access g (node g n k) m) (end_of (node g n k)) x)
+      (may_use_is f n k (declared_access g (node g n k) m))
 
-  pub base_is : (f : Option ℕ) (c k : ℕ) → Decides (base_is_accessible g f c k) (BaseIsAccessible g f c (node g c k))
+  pub base_is : (f : Option ℕ) (c k : ℕ) → Decides (base_is_accessible g f c k)
+      (BaseIsAccessible g f c (node g c k))
   unfolding base_is_accessible
   base_is f c k = may_use_is f c k Public
 

@@ -1,19 +1,19 @@
 -- A class that is not complete has one subobject, itself.
 use Rattle.std.proofs.Common.{◌≡◌, ℕ, zero, suc, List, [], ◌∷◌, length, refl, sym, subst, ap, ◌∙◌, inl, inr}
-use Rattle.std.specs.Prelude.{Bool, true, false, ◌⊎◌, ◌++◌}
+use Rattle.std.specs.Prelude.{Bool, true, false, ◌⊎◌}
 use Rattle.std.specs.Bool.{Decides}
-use Rattle.std.specs.List.{flat_map}
 use Rattle.mm_classes.specs.declared.class.Base.{Base}
 use Rattle.mm_classes.specs.Classes.{Class, class_at, bases_of, members_of, IsClassList, IsComplete}
-use Rattle.mm_classes.specs.Lists.{Has, firsts}
-use Rattle.mm_classes.specs.Subobjects.{Path, IsVirtual, listed, below, IsSubobject, chains, walk, plain_bases, subobjects_of}
+use Rattle.mm_classes.specs.Lists.{Has}
+use Rattle.mm_classes.specs.Subobjects.{Path, IsVirtual, listed, below, IsSubobject, chains, walk, subobjects_of}
 use Rattle.mm_classes.proofs.Answering.{complete_below}
 
 pub complete_or : (g : List Class) (c : ℕ) → IsComplete g c ⊎ ((class_at g c).complete ≡ false)
-complete_or g c = elim (class_at g c).complete as (λ b. (class_at g c).complete ≡ b → IsComplete g c ⊎ (b ≡ false)) [
-  | true ↦ λ e. inl (complete_below g c e, e)
-  | false ↦ λ e. inr refl
-] refl
+complete_or g c = elim (class_at g c).complete as (λ b. (class_at g c).complete ≡ b → IsComplete g c
+    ⊎ (b ≡ false)) [
+      | true ↦ λ e. inl (complete_below g c e, e)
+      | false ↦ λ e. inr refl
+    ] refl
 
 pub not_complete : (g : List Class) (c : ℕ) → (IsComplete g c → ⊥) → (class_at g c).complete ≡ false
 not_complete g c h = elim (complete_or g c) [ inl k ↦ absurd (h k) | inr e ↦ e ]
@@ -35,7 +35,11 @@ module _ (g : List Class) (ok : IsClassList g) (c : ℕ) (e : (class_at g c).com
   -- itself alone
   pub itself_alone : (p : Path) → IsSubobject g c p → p ≡ c ∷ []
   itself_alone [] s = absurd s
-  itself_alone (h ∷ []) s = elim s.0 [ inl k ↦ ap (λ (z : ℕ). z ∷ []) k | inr v ↦ absurd (no_virtual h v) ]
+  itself_alone (h ∷ []) s = elim s.0 [
+    | inl k ↦ ap (λ (z : ℕ). z ∷ []) k
+    | inr v ↦ absurd
+        (no_virtual h v)
+  ]
   itself_alone (h ∷ b ∷ t) s = elim s.0 [
     | inl k ↦ absurd (no_base s.1.0.0 (subst (λ z. Has (bases_of g z) s.1.0.0) k s.1.0.1))
     | inr v ↦ absurd (no_virtual h v)

@@ -1,6 +1,6 @@
 -- Tests of the elements of a list, and the tests of the specs.
 use Rattle.std.proofs.Common.{◌≡◌, ℕ, zero, suc, ◌+◌, ◌<◌, ◌≤◌, List, [], ◌∷◌, ◌++◌, refl, sym, subst, ap, ◌∙◌, inl, inr, arith}
-use Rattle.std.specs.Prelude.{Bool, true, false, not, ◌&&◌, ◌||◌, ◌⊎◌, nat_eq, nat_lt, filter, cond, length, get_or, Option, None, Some, position}
+use Rattle.std.specs.Prelude.{Bool, true, false, not, ◌&&◌, ◌||◌, ◌⊎◌, nat_eq, nat_lt, filter, cond, length, get_or, None, Some, position}
 use Rattle.std.specs.Bool.{Decides}
 use Rattle.std.specs.List.{list_any, range_with_len, position_or_len}
 use Rattle.std.proofs.lemmas.Bool.Decides.{eqb_tells, leb_tells, nat_tests}
@@ -8,7 +8,7 @@ use Rattle.std.proofs.lemmas.List.Sums.{position_or_len_is}
 use Rattle.mm_classes.specs.Lists.{Has, first, later}
 use Rattle.mm_classes.proofs.Answering.{Has-get_or}
 
-differ : false ≡ true → ⊥
+pub differ : false ≡ true → ⊥
 differ z = cc
 
 -- a test of two numbers
@@ -42,7 +42,8 @@ pub of_any : {X : Type 0} (test : X → Bool) (P : X → Type 0) (xs : List X)
     → Decides (list_any test xs) ((x : X) × Has xs x × P x)
 of_any {X = X} test P [] d = ((λ e. absurd (differ e)), λ h. elim h.1 [ ])
 of_any {X = X} test P (y ∷ xs) d = like (test y || list_any test xs) to back
-    (of_or (test y) (list_any test xs) (d y (first refl)) (of_any test P xs (λ x h. d x (later h)))) where
+    (of_or (test y) (list_any test xs) (d y (first refl)) (of_any test P xs (λ x h. d x
+    (later h)))) where
       to : P y ⊎ ((x : X) × Has xs x × P x) → (x : X) × Has (y ∷ xs) x × P x
       to (inl p) = (y, first refl, p)
       to (inr r) = (r.0, later r.1, r.2)
@@ -55,22 +56,24 @@ of_any {X = X} test P (y ∷ xs) d = like (test y || list_any test xs) to back
 pub passed : {X : Type 0} (test : X → Bool) (xs : List X) {x : X} → Has (filter test xs) x
     → Has xs x × (test x ≡ true)
 passed test [] h = elim h [ ]
-passed test (y ∷ xs) {x = x} h = elim (test y) as (λ b. test y ≡ b → Has (cond b (y ∷ filter test xs) (filter test xs)) x → Has (y ∷ xs) x × (test x ≡ true)) [
-  | true ↦ λ e k. elim k [
-    | first i ↦ (first i, ap test (sym i) ∙ e)
-    | later j ↦ (let r = passed test xs j in (later r.0, r.1))
-  ]
-  | false ↦ λ e k. (let r = passed test xs k in (later r.0, r.1))
-] refl h
+passed test (y ∷ xs) {x = x} h = elim (test y) as (λ b. test y ≡ b → Has (cond b
+    (y ∷ filter test xs) (filter test xs)) x → Has (y ∷ xs) x × (test x ≡ true)) [
+      | true ↦ λ e k. elim k [
+        | first i ↦ (first i, ap test (sym i) ∙ e)
+        | later j ↦ (let r = passed test xs j in (later r.0, r.1))
+      ]
+      | false ↦ λ e k. (let r = passed test xs k in (later r.0, r.1))
+    ] refl h
 
 pub passes : {X : Type 0} (test : X → Bool) (xs : List X) (x : X) → Has xs x → test x ≡ true
     → Has (filter test xs) x
 passes test [] x h e = elim h [ ]
 passes test (y ∷ xs) x (first k) e = rw (ap test k ∙ e) (first k)
-passes test (y ∷ xs) x (later h) e = elim (test y) as (λ b. Has (cond b (y ∷ filter test xs) (filter test xs)) x) [
-  | true ↦ later (passes test xs x h e)
-  | false ↦ passes test xs x h e
-]
+passes test (y ∷ xs) x (later h) e = elim (test y) as (λ b. Has (cond b (y ∷ filter test xs)
+    (filter test xs)) x) [
+      | true ↦ later (passes test xs x h e)
+      | false ↦ passes test xs x h e
+    ]
 
 -- the numbers from a on
 pub range_more : (a n : ℕ) → range_with_len a (suc n) ≡ range_with_len a n ++ (a + n) ∷ []
@@ -89,25 +92,34 @@ range_has a (suc n) m l k = elim (eqb_tells a m) [
 pub has_range : (a n : ℕ) {m : ℕ} → Has (range_with_len a n) m → (a ≤ m) × (m < a + n)
 has_range a zero h = elim h [ ]
 has_range a (suc n) (first e) = (omega arith, omega arith)
-has_range a (suc n) (later h) = let r = has_range (a + 1) n h in let l = r.0 in let k = r.1 in (omega arith, omega arith)
+has_range a (suc n) (later h) = let r = has_range (a + 1) n h in let l = r.0 in let k = r.1 in
+    (omega arith, omega arith)
 
 -- the first element that passes
 pub all_fail : {X : Type 0} (test : X → Bool) (xs : List X) → length xs ≤ position_or_len test xs
     → (y : X) → Has xs y → test y ≡ false
 all_fail test [] l y h = elim h [ ]
-all_fail test (x ∷ xs) l y h = elim (test x) as (λ b. test x ≡ b → suc (length xs) ≤ cond (not b) (1 + position_or_len test xs) 0 → test y ≡ false) [
-  | true ↦ λ e k. absurd (omega arith)
-  | false ↦ λ e k. elim h [ first i ↦ ap test (sym i) ∙ e | later j ↦ all_fail test xs (omega arith) y j ]
-] refl l
+all_fail test (x ∷ xs) l y h = elim (test x) as (λ b. test x ≡ b → suc (length xs) ≤ cond (not b)
+    (1 + position_or_len test xs) 0 → test y ≡ false) [
+      | true ↦ λ e k. absurd (omega arith)
+      | false ↦ λ e k. elim h [
+        | first i ↦ ap test (sym i) ∙ e
+        | later j ↦ all_fail test xs
+            (omega arith) y j
+      ]
+    ] refl l
 
 none_some : {X : Type 0} (x : X) → Some x ≡ None → ⊥
 none_some x e = cc
 
-pub none_passes : {X : Type 0} (test : X → Bool) (xs : List X) → position test xs ≡ None → (y : X) → Has xs y → test y ≡ false
-none_passes test xs e = all_fail test xs (elim (leb_tells (suc (position_or_len test xs)) (length xs)) [
-  | inl a ↦ absurd (none_some (position_or_len test xs) (sym (ap (λ b. cond b (Some (position_or_len test xs)) None) a.0) ∙ e))
-  | inr a ↦ (let z = a.1 in omega arith)
-])
+pub none_passes : {X : Type 0} (test : X → Bool) (xs : List X) → position test xs ≡ None → (y : X)
+    → Has xs y → test y ≡ false
+none_passes test xs e = all_fail test xs (elim (leb_tells (suc (position_or_len test xs))
+    (length xs)) [
+      | inl a ↦ absurd (none_some (position_or_len test xs) (sym (ap (λ b. cond b (Some
+          (position_or_len test xs)) None) a.0) ∙ e))
+      | inr a ↦ (let z = a.1 in omega arith)
+    ])
 
 past : (n : ℕ) → nat_lt n n ≡ false
 past n = grind (arith, nat_tests)
@@ -115,14 +127,19 @@ past n = grind (arith, nat_tests)
 below : (m n : ℕ) → m < n → nat_lt m n ≡ true
 below m n l = grind (arith, nat_tests)
 
-pub first_none : {X : Type 0} (test : X → Bool) (xs : List X) → ((y : X) → Has xs y → test y ≡ false) → position test xs ≡ None
+pub first_none : {X : Type 0} (test : X → Bool) (xs : List X) → ((y : X) → Has xs y
+    → test y ≡ false) → position test xs ≡ None
 first_none test [] h = refl
 first_none test (x ∷ xs) h =
-    let i = position_or_len_is test (x ∷ xs) (suc (length xs)) x (omega arith) (λ k l. h (get_or (x ∷ xs) k x) (Has-get_or (x ∷ xs) k x l)) (λ l. absurd (omega arith)) in
-    ap (λ n. cond (nat_lt n (suc (length xs))) (Some n) None) i ∙ ap (λ b. cond b (Some (suc (length xs))) None) (past (suc (length xs)))
+    let i = position_or_len_is test (x ∷ xs) (suc (length xs)) x (omega arith) (λ k l. h (get_or
+    (x ∷ xs) k x) (Has-get_or (x ∷ xs) k x l)) (λ l. absurd (omega arith)) in
+    ap (λ n. cond (nat_lt n (suc (length xs))) (Some n) None) i ∙ ap (λ b. cond b (Some (suc
+    (length xs))) None) (past (suc (length xs)))
 
-pub first_is : {X : Type 0} (test : X → Bool) (xs : List X) (k : ℕ) (d : X) → k < length xs → ((j : ℕ) → j < k → test (get_or xs j d) ≡ false) → test (get_or xs k d) ≡ true
+pub first_is : {X : Type 0} (test : X → Bool) (xs : List X) (k : ℕ) (d : X) → k < length xs
+    → ((j : ℕ) → j < k → test (get_or xs j d) ≡ false) → test (get_or xs k d) ≡ true
     → position test xs ≡ Some k
 first_is test xs k d l none e =
     let i = position_or_len_is test xs k d (omega arith) none (λ z. e) in
-    ap (λ n. cond (nat_lt n (length xs)) (Some n) None) i ∙ ap (λ b. cond b (Some k) None) (below k (length xs) l)
+    ap (λ n. cond (nat_lt n (length xs)) (Some n) None) i ∙ ap (λ b. cond b (Some k) None) (below k
+    (length xs) l)

@@ -16,4 +16,5 @@ module _ (g : List Class) where
       (length (subobjects_of g c)) (λ m l. same_number (end_of (node g c m)) b)
 
   pub up_alone : (u : Up) (c b : ℕ) → IsUpOf u g c b → u ≡ up_of g c b
-  up_alone u c b h = picks_alone (λ n. end_of (node g c n) ≡ b) (length (subobjects_of g c)) u (up_of g c b) h (up_is c b)
+  up_alone u c b h = picks_alone (λ n. end_of (node g c n) ≡ b) (length (subobjects_of g c)) u
+      (up_of g c b) h (up_is c b)

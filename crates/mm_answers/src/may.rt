@@ -61,7 +61,8 @@ fn is_reached(graph: &Graph, from: &Context, declared: Access, c: ClassId, x: Cl
 fn known_from(graph: &Graph, from: &Context) -> Context
     ensures known { IfSome result.class (IsComplete graph.now) }
     ensures same { (n k : ℕ) (a : Access) → IsComplete graph.now n
-        → spec.may_use_of graph.now result.class n k a ≡ spec.may_use_of graph.now from.now.class n k a }
+        → spec.may_use_of graph.now result.class n k a
+        ≡ spec.may_use_of graph.now from.now.class n k a }
 {
     // Asked here, so that the graph is known to be a class list.
     let _classes = graph.classes();
@@ -103,8 +104,9 @@ fn may_use(graph: &Graph, from: &Context, n: ClassId, at: NodeId, declared: Acce
     may_use_in(graph, &known_from(graph, from), n, at, declared)
 }
 
-/// Whether a member, by its number in the class of the subobject `node` of `naming`, may be used where
-/// it is named in `naming`, in an object of class `through`. It takes no memory.
+/// Whether a member, by its number in the class of the subobject `node` of `naming`, may be used
+/// where it is named in `naming`, in an object of class `through`. Past the last member it counts as
+/// private, and what is no subobject has no member that may be used. It takes no memory.
 pub fn may(
     graph: &Graph,
     from: Context,

@@ -8,8 +8,8 @@ use mm_classes::answer::Up;
 use mm_classes::id::{ClassId, NodeId};
 use mm_paths::graph::Graph;
 
-/// The subobject of `c` that is of class `b`. A class that isn't complete, or that no number has, has
-/// itself alone.
+/// The subobject of `c` that is of class `b`. A class that isn't complete has itself alone. It takes
+/// no memory.
 pub fn up(graph: &Graph, c: ClassId, b: ClassId) -> Up
     ensures { result ≡ up_of graph.now c b }
 {
