@@ -1,0 +1,4 @@
+pub mod Tests
+pub mod Picked
+pub mod Ups
+pub mod Founds
