@@ -9,7 +9,5 @@ pub mod BuiltStatements
 pub mod BuiltDeclarations
 pub mod Rules
 pub mod Forms
-pub mod Shown
-pub mod Walk
 pub mod Limits
 pub mod Laws

@@ -1,10 +1,9 @@
 // The forms of trees, and sets of them.
 
-/// What a tree is for the order in which the language is built.
+/// What a tree is for the order in which the language is built. A tree on arithmetic types alone is
+/// of no form.
 #[derive(Clone, Copy)]
 pub enum Form {
-    /// Expressions, statements and functions on arithmetic types.
-    Scalar,
     /// Classes and what stands on their objects.
     Object,
     /// Member functions marked `virtual`.
@@ -20,7 +19,6 @@ pub enum Form {
 /// A set of forms: which of them are in it.
 #[derive(Clone, Copy)]
 pub struct Forms {
-    pub scalars: bool,
     pub objects: bool,
     pub virtuals: bool,
     pub opens: bool,
@@ -37,7 +35,6 @@ impl Forms {
         ensures { result ≡ all_forms }
     {
         Forms {
-            scalars: true,
             objects: true,
             virtuals: true,
             opens: true,
@@ -51,7 +48,6 @@ impl Forms {
         ensures { result ≡ only form }
     {
         Forms {
-            scalars: matches!(form, Form::Scalar),
             objects: matches!(form, Form::Object),
             virtuals: matches!(form, Form::Virtual),
             opens: matches!(form, Form::Open),
@@ -65,7 +61,6 @@ impl Forms {
         ensures { result ≡ is_among self form }
     {
         match form {
-            Form::Scalar => self.scalars,
             Form::Object => self.objects,
             Form::Virtual => self.virtuals,
             Form::Open => self.opens,

@@ -2,7 +2,7 @@
 
 ghost use Rattle.std.specs.Prelude.{◌≡◌};
 ghost use Rattle.std.specs.Option.{option_copied};
-ghost use Rattle.mm_syntax.specs.Numbers.{is_suffix, is_unsigned, is_int_number};
+ghost use Rattle.mm_syntax.specs.Numbers.{is_suffix, is_unsigned};
 
 use mm_base::place::Place;
 use mm_base::text::Text;
@@ -28,13 +28,6 @@ impl Number {
         ensures { result ≡ is_unsigned self.now.text }
     {
         is_last_suffix(self.text.as_bytes().last())
-    }
-
-    /// Whether it is an `int`.
-    pub fn is_int(&self) -> bool
-        ensures { result ≡ is_int_number self.now.text self.now.value }
-    {
-        !self.has_suffix() && self.value < 0x8000_0000
     }
 }
 

@@ -10,7 +10,7 @@ use Rattle.mm_token.specs.declared.token.TokenEnd.TheVariants.{Absent, Failed, T
 use Rattle.mm_token.specs.Tokens.{unit_start, Reads, IsRefused}
 use Rattle.mm_token.specs.Causes as causes
 use Rattle.mm_syntax.specs.declared.decl.Unit.{Unit as UnitTree}
-use Rattle.mm_syntax.specs.Forms.{first_of, shown_unit}
+use Rattle.mm_syntax.specs.Forms.{first_of, unit_marks}
 use Rattle.mm_syntax.specs.View.{unit_view}
 use Rattle.mm_parse_unit.specs.Units.{IsSyntaxFault}
 use Rattle.mm_parse_unit.proofs.BoundsKept.{keeps}
@@ -61,7 +61,7 @@ module _ (r : Refusal) (name : List ℕ) (tokens : Tokens) where
   pub syntactic : (code : Code) (place : Place) → IsSyntaxFault tokens.list tokens.end code place → IsFaultOr r (record { code = code; place = place; file = file_of tokens.files place; text = [] }) → RefusesTokens r name tokens
   syntactic code place f is = λ files reads. by_fault r _ files name is (inr (inl (tokens, reads, f, refl, refl)))
 
-  pub unbuilt : (tree : UnitTree) (place : Place) → first_of unbuilt_forms (shown_unit tree).marks ≡ Some place → IsFaultOr r (record { code = N0; place = place; file = file_of tokens.files place; text = [] }) → RefusesTree r name tokens tree
+  pub unbuilt : (tree : UnitTree) (place : Place) → first_of unbuilt_forms (unit_marks (unit_view tree)) ≡ Some place → IsFaultOr r (record { code = N0; place = place; file = file_of tokens.files place; text = [] }) → RefusesTree r name tokens tree
   unbuilt tree place f is = λ t files reads. by_fault r _ files name is (inr (inr (inl (tokens, tree, record { reads = reads; is_tree = t }, f, refl, refl, refl))))
 
   pub ill_typed : (tree : UnitTree) (code : Code) (place : Place) (text : List ℕ) → UnitFaults (unit_view tree) (at code place text) → IsFaultOr r (record { code = code; place = place; file = file_of tokens.files place; text = text }) → RefusesBuilt r name tokens tree

@@ -16,7 +16,7 @@ use Rattle.mm_token.proofs.Levels.{tokens_once, fault_once, never_both}
 use Rattle.mm_parse_expr.specs.Longest.{place_of}
 use Rattle.mm_syntax.specs.declared.decl.Decl.{Decl}
 use Rattle.mm_syntax.specs.declared.decl.Unit.{Unit as UnitTree}
-use Rattle.mm_syntax.specs.Forms.{first_of, shown_unit}
+use Rattle.mm_syntax.specs.Forms.{first_of, unit_marks}
 use Rattle.mm_syntax.specs.View.{unit_view}
 use Rattle.mm_parse_unit.specs.Units.{IsUnit, IsSyntaxFault}
 use Rattle.mm_parse_unit.proofs.OneAnswer.{one_unit, one_fault, not_both}
@@ -67,7 +67,7 @@ by_first name files tree None = by_judged name files (judge_unit (unit_view tree
 by_first name files tree (Some place) = fault N0 place (file_of files place) []
 
 abbrev by_tree : List ℕ → List (List ℕ) → UnitTree → Verdict
-by_tree name files tree = by_first name files tree (first_of unbuilt_forms (shown_unit tree).marks)
+by_tree name files tree = by_first name files tree (first_of unbuilt_forms (unit_marks (unit_view tree)))
 
 same_trees : (d e : List Decl) (p q : Place) (f g : List (List ℕ)) (m n : ℕ) → d ≡ e → p ≡ q → f ≡ g → m ≡ n →
     ◌≡◌ {A = UnitTree} (record { decls = d; place = p; files = f; bytes = m }) (record { decls = e; place = q; files = g; bytes = n })

@@ -4,7 +4,7 @@ use Rattle.mm_base.specs.Outside.{FilesSeen}
 use Rattle.mm_token.specs.declared.token.Tokens.{Tokens}
 use Rattle.mm_token.specs.Tokens.{Reads}
 use Rattle.mm_syntax.specs.declared.decl.Unit.{Unit as UnitTree}
-use Rattle.mm_syntax.specs.Forms.{first_of, shown_unit}
+use Rattle.mm_syntax.specs.Forms.{first_of, unit_marks}
 use Rattle.mm_syntax.specs.View.{unit_view}
 use Rattle.mm_parse_unit.specs.Units.{IsTreeOf}
 use Rattle.mm_core.specs.Units.{Checked}
@@ -37,7 +37,7 @@ RefusesTokens r name tokens =
 
 -- the tree has no tree in it of a form that isn't built
 abbrev pub HasBuilt : UnitTree → Type 0
-HasBuilt tree = first_of unbuilt_forms (shown_unit tree).marks ≡ None
+HasBuilt tree = first_of unbuilt_forms (unit_marks (unit_view tree)) ≡ None
 
 -- a unit with these tokens and this tree is refused so
 abbrev pub RefusesTree : Refusal → List ℕ → Tokens → UnitTree → Type 0

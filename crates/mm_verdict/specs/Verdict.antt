@@ -10,7 +10,7 @@ use Rattle.mm_token.specs.declared.token.TokenEnd.TheVariants as token_end
 use Rattle.mm_token.specs.Tokens.{unit_start, Reads, IsRefused}
 use Rattle.mm_syntax.specs.declared.decl.Unit.{Unit as UnitTree}
 use Rattle.mm_syntax.specs.declared.form.Forms.{Forms}
-use Rattle.mm_syntax.specs.Forms.{first_of, shown_unit}
+use Rattle.mm_syntax.specs.Forms.{first_of, unit_marks}
 use Rattle.mm_syntax.specs.View.{unit_view}
 use Rattle.mm_parse_unit.specs.Units.{IsTreeOf, IsSyntaxFault}
 use Rattle.mm_checks.specs.Checks.{at}
@@ -39,7 +39,7 @@ file_of files place = get_or files place.file []
 
 -- the forms of trees that aren't built yet
 abbrev pub unbuilt_forms : Forms
-unbuilt_forms = record { scalars = false; objects = true; virtuals = true; opens = true; constructs = true; casts = true }
+unbuilt_forms = record { objects = true; virtuals = true; opens = true; constructs = true; casts = true }
 
 -- ---- how far a unit comes
 
@@ -52,7 +52,7 @@ pub record IsRead (held : Option Contents) (name : List ℕ) (tokens : Tokens) (
 -- it is read, and no tree stands in it whose form isn't built
 pub record IsBuilt (held : Option Contents) (name : List ℕ) (tokens : Tokens) (tree : UnitTree) : Type 0 where
   pub read : IsRead held name tokens tree
-  pub built : first_of unbuilt_forms (shown_unit tree).marks ≡ None
+  pub built : first_of unbuilt_forms (unit_marks (unit_view tree)) ≡ None
 
 -- it is built, and typed as this
 pub record IsTyped (held : Option Contents) (name : List ℕ) (tree : UnitTree) (unit : Checked) : Type 0 where
@@ -85,7 +85,7 @@ IsSyntactic held name f =
 abbrev pub IsUnbuilt : Option Contents → List ℕ → Fault → Type 0
 IsUnbuilt held name f =
     (tokens : Tokens) × (tree : UnitTree) × IsRead held name tokens tree
-    × (first_of unbuilt_forms (shown_unit tree).marks ≡ Some f.place) × (f.code ≡ N0)
+    × (first_of unbuilt_forms (unit_marks (unit_view tree)) ≡ Some f.place) × (f.code ≡ N0)
     × (f.file ≡ file_of tokens.files f.place) × (f.text ≡ [])
 
 -- The unit isn't typed: it has a first fault.

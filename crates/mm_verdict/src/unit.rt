@@ -122,7 +122,6 @@ fn unbuilt() -> Forms
     ensures { result ≡ unbuilt_forms }
 {
     Forms {
-        scalars: false,
         objects: true,
         virtuals: true,
         opens: true,

@@ -1,6 +1,10 @@
-use Rattle.mm_syntax.specs.Shown.{shown_decl}
-use Rattle.mm_syntax.proofs.Walked.{all_more}
+use Rattle.mm_syntax.specs.View.{decl_view}
+use Rattle.mm_syntax.specs.Forms.{decl_marks}
+use Rattle.mm_syntax.proofs.Walked.{view_more}
 use Rattle.mm_syntax.proofs.walk.decls.Goals as goal
 
 pub loop-tree-preserved : goal.loop-tree-preserved
-loop-tree-preserved c = all_more shown_decl c.args.wanted c.loop-tree.all c.and-all.result c.decl.result c.args.list.now c.loop-tree.tree-index c.tree-item.result c.loop-tree-test.true c.tree-item.is c.loop-tree.invariant c.decl.ensures c.and-all.ensures
+loop-tree-preserved c =
+    view_more decl_view decl_marks c.args.wanted c.args.list.now c.loop-tree.tree-index
+    c.tree-item.result c.loop-tree.first c.decl.result c.or-first.result
+    c.loop-tree-test.true c.tree-item.is c.loop-tree.invariant c.decl.ensures c.or-first.ensures
