@@ -8,7 +8,7 @@ use Rattle.mm_classes.specs.Classes.{Class}
 use Rattle.mm_classes.specs.declared.class.Ty.{Ty}
 use Rattle.mm_lookup.specs.declared.found.Found.{Found}
 use Rattle.mm_lookup.specs.declared.found.Found.TheVariants as found
-use Rattle.mm_answers.specs.Questions.{found_of}
+use Rattle.mm_answers.specs.Finding.{found_of}
 use Rattle.mm_syntax.specs.declared.name.Name.{Name}
 use Rattle.mm_syntax.specs.declared.name.MemberOperator.{MemberOperator}
 use Rattle.mm_syntax.specs.Tree as t

@@ -14,7 +14,8 @@ use Rattle.mm_classes.specs.Subobjects.{end_of}
 use Rattle.mm_classes.specs.Questions.{node}
 use Rattle.mm_lookup.specs.declared.found.Found.{Found}
 use Rattle.mm_lookup.specs.declared.found.Found.TheVariants as found
-use Rattle.mm_answers.specs.Questions.{found_of, is_allowed}
+use Rattle.mm_answers.specs.Finding.{found_of}
+use Rattle.mm_answers.specs.Accessing.{is_allowed}
 use Rattle.mm_core.specs.Heads.{same_types, params_in as params_of_kind}
 use Rattle.mm_core.specs.Tree as k
 use Rattle.mm_core.specs.View.{exprs_of}

@@ -7,7 +7,8 @@ use Rattle.mm_classes.specs.declared.class.Ty.TheVariants as ty
 use Rattle.mm_classes.specs.declared.answer.Up.{Up}
 use Rattle.mm_classes.specs.declared.answer.Up.TheVariants as up
 use Rattle.mm_classes.specs.Classes.{Class}
-use Rattle.mm_answers.specs.Questions.{up_of, base_is_accessible}
+use Rattle.mm_answers.specs.Up.{up_of}
+use Rattle.mm_answers.specs.Accessing.{base_is_accessible}
 use Rattle.mm_core.specs.declared.part.Target.TheVariants as target
 use Rattle.mm_core.specs.Heads.{same_type}
 use Rattle.mm_core.specs.Tree as k

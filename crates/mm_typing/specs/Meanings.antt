@@ -6,7 +6,9 @@ use Rattle.mm_base.specs.declared.code.TheConstants.Code.{S1}
 use Rattle.mm_classes.specs.Classes.{Class}
 use Rattle.mm_lookup.specs.declared.found.Found.{Found}
 use Rattle.mm_lookup.specs.declared.found.Found.TheVariants as found
-use Rattle.mm_answers.specs.Questions.{up_of, found_of, is_allowed}
+use Rattle.mm_answers.specs.Up.{up_of}
+use Rattle.mm_answers.specs.Finding.{found_of}
+use Rattle.mm_answers.specs.Accessing.{is_allowed}
 use Rattle.mm_syntax.specs.declared.name.Name.{Name}
 use Rattle.mm_syntax.specs.declared.name.MemberOperator.{MemberOperator}
 use Rattle.mm_syntax.specs.Tree as t

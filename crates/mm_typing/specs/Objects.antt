@@ -8,7 +8,8 @@ use Rattle.mm_classes.specs.declared.class.Ty.TheVariants as ty
 use Rattle.mm_classes.specs.Classes.{Class, class_at}
 use Rattle.mm_classes.specs.Subobjects.{end_of}
 use Rattle.mm_classes.specs.Questions.{node}
-use Rattle.mm_answers.specs.Questions.{up_of, number_of}
+use Rattle.mm_answers.specs.Up.{up_of}
+use Rattle.mm_class_table.specs.Numbers.{number_of}
 use Rattle.mm_overload.specs.Rank.{is_base}
 use Rattle.mm_core.specs.Heads.{field_type}
 use Rattle.mm_core.specs.Tree as k

@@ -1,4 +1,0 @@
-pub mod Tests
-pub mod Picked
-pub mod Ups
-pub mod Founds
