@@ -1,3 +1,5 @@
 pub mod Statements
+pub mod Heads
+pub mod Classes
 pub mod Units
 pub mod Verdict
