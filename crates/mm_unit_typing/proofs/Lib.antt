@@ -3,3 +3,5 @@ pub mod Heads
 pub mod Classes
 pub mod Units
 pub mod Verdict
+mod Words
+mod Refused

@@ -1,5 +1,5 @@
 -- The check of a unit gives what the relations say.
-use Rattle.std.proofs.Common.{◌≡◌, true, false, List, [], ◌∷◌, refl}
+use Rattle.std.proofs.Common.{true, false, List, [], ◌∷◌}
 use Rattle.std.specs.Prelude.{Some, None}
 use Rattle.mm_syntax.specs.Tree.{Function, declaration, definition, member_definition, constructor_definition, method, destructor, constructor, Decl, class_decl, function_decl, UnitTree}
 use Rattle.mm_checks.specs.Reads.{Reads}

@@ -1,6 +1,6 @@
 -- Bodies of functions, and the heads of member functions that are defined outside their classes. ISO/IEC 14882:1998, 3.3.5,
 -- 8.4, 9.3/2 to /5. Own: the faults of a head count before those of the body.
-use Rattle.std.specs.Prelude.{◌≡◌, ℕ, Bool, true, false, is_some, List, [], ◌++◌, length, drop, Option, Some, None}
+use Rattle.std.specs.Prelude.{◌≡◌, ℕ, Bool, true, false, is_some, List, [], ◌++◌, length, drop, Option}
 use Rattle.mm_base.specs.declared.code.TheConstants.Code.{S21}
 use Rattle.mm_classes.specs.declared.class.Ty.{Ty}
 use Rattle.mm_core.specs.Heads.{this_of}

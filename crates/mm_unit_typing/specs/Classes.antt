@@ -9,14 +9,13 @@ use Rattle.mm_classes.specs.declared.class.Access.{Access}
 use Rattle.mm_classes.specs.declared.class.Base.{Base}
 use Rattle.mm_classes.specs.declared.class.Member.{Member}
 use Rattle.mm_classes.specs.Adding.{declared, added}
-use Rattle.mm_classes.specs.Classes.{Class, class_at, field_count}
+use Rattle.mm_classes.specs.Classes.{Class, field_count}
 use Rattle.mm_classes.specs.Lists.{has}
 use Rattle.mm_classes.specs.Subobjects.{subobjects_of}
 use Rattle.mm_core.specs.declared.tree.CoreClass.{CoreClass}
 use Rattle.mm_core.specs.Tree as k
 use Rattle.mm_syntax.specs.declared.name.Name.{Name}
 use Rattle.mm_syntax.specs.declared.name.Access.{Access as Word}
-use Rattle.mm_syntax.specs.declared.name.ClassKey.{ClassKey}
 use Rattle.mm_syntax.specs.declared.decl.Base.{Base as BaseName}
 use Rattle.mm_syntax.specs.declared.decl.Head.{Head}
 use Rattle.mm_syntax.specs.Tree as t

@@ -1,6 +1,6 @@
 -- The members that a class declares. ISO/IEC 14882:1998, 9.2 (class members), 9.3 (member functions), 11/3 (default access),
 -- 12.4 (destructors), 13.1. Own: which kinds of fields there are.
-use Rattle.std.specs.Prelude.{◌≡◌, ℕ, Bool, true, false, not, ◌&&◌, ◌||◌, is_some, List, [], ◌∷◌, ◌++◌, map, filter, codes, Option, Some, None}
+use Rattle.std.specs.Prelude.{◌≡◌, ℕ, Bool, true, false, not, ◌&&◌, ◌||◌, is_some, List, [], ◌∷◌, ◌++◌, map, filter, codes}
 use Rattle.std.specs.List.{list_any}
 use Rattle.std.specs.Str.{bytes_eq}
 use Rattle.mm_base.specs.declared.place.Place.{Place}

@@ -1,6 +1,6 @@
 -- Types and names that a declaration writes, and the faults of a declarator. ISO/IEC 14882:1998, 3.3.1, 7.1.5.2
 -- (simple type specifiers), 8.3.1 (pointers), 8.3.2 (references), 8.5; names that begin with `mm_` are own.
-use Rattle.std.specs.Prelude.{◌≡◌, ℕ, Bool, true, false, not, if◌then◌else◌, List, [], take, codes, Option, Some, None}
+use Rattle.std.specs.Prelude.{ℕ, Bool, true, not, if◌then◌else◌, List, [], take, codes, Option, Some, None}
 use Rattle.std.specs.Str.{bytes_eq}
 use Rattle.mm_base.specs.declared.place.Place.{Place}
 use Rattle.mm_base.specs.declared.code.TheConstants.Code.{N0, S1, S2, S3, S12, S18}
