@@ -5,3 +5,4 @@ pub mod Units
 pub mod Verdict
 mod Words
 mod Refused
+mod Accepted
