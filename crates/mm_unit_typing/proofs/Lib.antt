@@ -1,6 +1,7 @@
 pub mod Statements
 pub mod Heads
 pub mod Classes
+pub mod Fitting
 pub mod Units
 pub mod Verdict
 mod Words
