@@ -2,6 +2,7 @@ pub mod Statements
 pub mod Heads
 pub mod Classes
 pub mod Fitting
+pub mod Listed
 pub mod Units
 pub mod Verdict
 mod Words
