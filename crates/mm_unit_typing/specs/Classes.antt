@@ -1,6 +1,7 @@
--- Classes that a unit declares and defines. ISO/IEC 14882:1998, 3.3.1/3, 9 and 9.1 (classes), 10 and 10.1 (bases), 11.2/2,
--- 9.2/2 (bodies in a class). Own: the order of faults. The bases come first, then the members in their order, then the
--- class itself by the codes, and the bodies of its member functions at last. Own: the limits.
+-- Classes that a unit declares and defines. ISO/IEC 14882:1998, 3.3.1/3, 9 and 9.1 (classes), 10
+-- and 10.1 (bases), 11.2/2, 9.2/2 (bodies in a class). Own: the order of faults. The bases come
+-- first, then the members in their order, then the class itself by the codes, and the bodies of its
+-- member functions at last. Own: the limits.
 use Rattle.std.specs.Prelude.{◌≡◌, ℕ, zero, suc, ◌+◌, ◌^◌, Bool, true, not, ◌&&◌, if◌then◌else◌, nat_lt, is_some, length, List, [], ◌∷◌, ◌++◌, map, Option, Some, None}
 use Rattle.std.specs.List.{list_any, position_or_len}
 use Rattle.std.specs.Str.{bytes_eq}
@@ -41,7 +42,9 @@ mention name = record { place = name.place; tokens = [] }
 abbrev pub with_class : Declarations → Name → Declarations
 with_class d name = record d {
   classes = declared (class_number d.classes name.text) d.classes name.text;
-  marks = if nat_lt (class_number d.classes name.text) (length d.classes) then d.marks else d.marks ++ mention name ∷ [];
+  marks =
+      if nat_lt (class_number d.classes name.text) (length d.classes) then d.marks
+      else d.marks ++ mention name ∷ [];
 }
 
 -- ---- bases
@@ -67,7 +70,8 @@ BaseIs g a bs x =
 
 abbrev pub BaseIsNot : List Class → List Base → BaseName → Fault → Type 0
 BaseIsNot g bs x =
-    First (Is (complete_named g x.name.text)) (IsMissing (complete_named g x.name.text) (incomplete_class x.name)) λ b.
+    First (Is (complete_named g x.name.text))
+    (IsMissing (complete_named g x.name.text) (incomplete_class x.name)) λ b.
     Unmet (is_new_base bs b) (at S4 x.name.place x.name.text)
 
 abbrev pub BasesAre : List Class → Access → List Base → List BaseName → List Base → Type 0
@@ -76,7 +80,8 @@ BasesAre g a bs (x ∷ xs) = Then (BaseIs g a bs x) λ b. BasesAre g a (bs ++ b 
 
 abbrev pub SomeIsNoBase : List Class → Access → List Base → List BaseName → Fault → Type 0
 SomeIsNoBase g a bs [] = λ f. ⊥
-SomeIsNoBase g a bs (x ∷ xs) = First (BaseIs g a bs x) (BaseIsNot g bs x) λ b. SomeIsNoBase g a (bs ++ b ∷ []) xs
+SomeIsNoBase g a bs (x ∷ xs) =
+    First (BaseIs g a bs x) (BaseIsNot g bs x) λ b. SomeIsNoBase g a (bs ++ b ∷ []) xs
 
 -- ---- the class itself
 
@@ -97,10 +102,15 @@ is_small g c bs ms =
     nat_lt (length (subobjects_of (added g c bs ms) c)) 257 &&
     (nat_lt (field_count ms) (2 ^ 19 + 1) && nat_lt (length ms) (2 ^ 32))
 
+-- and on classes
+abbrev pub is_within_limits : List Class → ℕ → List Base → List Member → Bool
+is_within_limits g c bs ms = few_classes g && is_small g c bs ms
+
 abbrev pub past_limit : Name → Fault
 past_limit name = at S19 name.place name.text
 
--- `fits` says that the class may be declared, or defined, beside what is declared; `small`, that it is within the limits
+-- `fits` says that the class may be declared, or defined, beside what is declared; `small`, that it
+-- is within the limits
 abbrev pub OwnClass : Bool → Bool → Name → Unit {0} → Type 0
 OwnClass fits small name =
     Then (Met fits) λ u.
@@ -137,14 +147,16 @@ MethodBody d c name x (Some body) =
 
 abbrev pub MethodBodyNot : Declarations → ℕ → Name → Head → Option t.Stmt → Fault → Type 0
 MethodBodyNot d c name x None = λ f. ⊥
-MethodBodyNot d c name x (Some body) = BodyFaults d (Some c) (heading_of d.classes x) x.params.list body
+MethodBodyNot d c name x (Some body) =
+    BodyFaults d (Some c) (heading_of d.classes x) x.params.list body
 
 abbrev pub ItemBody : Declarations → ℕ → Name → t.Item → Declarations → Type 0
 ItemBody d c name (t.function_item (t.method p virtual_at x body)) = MethodBody d c name x body
 ItemBody d c name other = λ v. d ≡ v
 
 abbrev pub ItemBodyNot : Declarations → ℕ → Name → t.Item → Fault → Type 0
-ItemBodyNot d c name (t.function_item (t.method p virtual_at x body)) = MethodBodyNot d c name x body
+ItemBodyNot d c name (t.function_item (t.method p virtual_at x body)) =
+    MethodBodyNot d c name x body
 ItemBodyNot d c name other = λ f. ⊥
 
 abbrev pub BodiesAre : Declarations → ℕ → Name → List t.Item → Declarations → Type 0
@@ -153,37 +165,42 @@ BodiesAre d c name (x ∷ xs) = Then (ItemBody d c name x) λ next. BodiesAre ne
 
 abbrev pub SomeBodyIsNot : Declarations → ℕ → Name → List t.Item → Fault → Type 0
 SomeBodyIsNot d c name [] = λ f. ⊥
-SomeBodyIsNot d c name (x ∷ xs) = First (ItemBody d c name x) (ItemBodyNot d c name x) λ next. SomeBodyIsNot next c name xs
+SomeBodyIsNot d c name (x ∷ xs) =
+    First (ItemBody d c name x) (ItemBodyNot d c name x) λ next. SomeBodyIsNot next c name xs
 
 -- ---- declarations and definitions
 
 -- class c, which is declared and defined here, among what is declared
-module _ (d : Declarations) (c : ℕ) (name : Name) (a : Access) (bases : List BaseName) (items : List t.Item) (text : List ℕ) where
+module _ (d : Declarations) (c : ℕ) (name : Name) (a : Access) (bases : List BaseName)
+    (items : List t.Item) (text : List ℕ) where
   abbrev pub DefinitionTypes : Declarations → Type 0
   DefinitionTypes =
       Then (BasesAre d.classes a [] bases) λ bs.
       Then (ItemsAre d.classes name.text a [] items) λ ms.
-      Then (OwnClass (is_new_class d c name) (few_classes d.classes && is_small d.classes c bs ms) name) λ u.
+      Then (OwnClass (is_new_class d c name) (is_within_limits d.classes c bs ms) name) λ u.
       BodiesAre (completed d c name bs ms text) c name items
 
   abbrev pub DefinitionFaults : Fault → Type 0
   DefinitionFaults =
       First (BasesAre d.classes a [] bases) (SomeIsNoBase d.classes a [] bases) λ bs.
-      First (ItemsAre d.classes name.text a [] items) (SomeItemIsNot d.classes name.text a [] items) λ ms.
-      First (OwnClass (is_new_class d c name) (few_classes d.classes && is_small d.classes c bs ms) name)
-      (OwnClassNot (is_new_class d c name) (few_classes d.classes && is_small d.classes c bs ms) name) λ u.
+      First (ItemsAre d.classes name.text a [] items)
+      (SomeItemIsNot d.classes name.text a [] items) λ ms.
+      First (OwnClass (is_new_class d c name) (is_within_limits d.classes c bs ms) name)
+      (OwnClassNot (is_new_class d c name) (is_within_limits d.classes c bs ms) name) λ u.
       SomeBodyIsNot (completed d c name bs ms text) c name items
 
 -- a class is declared from its name on (3.3.1/5)
 abbrev pub ClassTypes : Declarations → t.Class → Declarations → Type 0
 ClassTypes d (t.class_declaration p key name) =
-    Then (OwnClass (is_no_function d.functions name) (few_classes (with_class d name).classes) name) λ u v.
-    with_class d name ≡ v
+    Then (OwnClass (is_no_function d.functions name) (few_classes (with_class d name).classes) name)
+    λ u v. with_class d name ≡ v
 ClassTypes d (t.class_definition p key name bases items text) =
-    DefinitionTypes (with_class d name) (class_number d.classes name.text) name (default_access key) bases items text
+    DefinitionTypes (with_class d name) (class_number d.classes name.text) name
+        (default_access key) bases items text
 
 abbrev pub ClassFaults : Declarations → t.Class → Fault → Type 0
 ClassFaults d (t.class_declaration p key name) =
     OwnClassNot (is_no_function d.functions name) (few_classes (with_class d name).classes) name
 ClassFaults d (t.class_definition p key name bases items text) =
-    DefinitionFaults (with_class d name) (class_number d.classes name.text) name (default_access key) bases items text
+    DefinitionFaults (with_class d name) (class_number d.classes name.text) name
+        (default_access key) bases items text

@@ -1,5 +1,6 @@
--- What the head of a function is asked, wherever it stands. ISO/IEC 14882:1998, 3.3.1, 8.3.5 and 8.4. Own: a head has at
--- most 32 parameters; the faults of its result and its parameters count first, then its own by their codes.
+-- What the head of a function is asked, wherever it stands. ISO/IEC 14882:1998, 3.3.1, 8.3.5 and
+-- 8.4. Own: a head has at most 32 parameters; the faults of its result and its parameters count
+-- first, then its own by their codes.
 use Rattle.std.specs.Prelude.{◌≡◌, ℕ, ◌+◌, Bool, nat_lt, List, [], ◌∷◌, ◌++◌, length, map, Option, Some, None}
 use Rattle.mm_base.specs.declared.place.Place.{Place}
 use Rattle.mm_base.specs.declared.code.TheConstants.Code.{S20}

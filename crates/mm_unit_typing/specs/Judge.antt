@@ -1,5 +1,5 @@
--- The check of a statement as a function: its parts in order, then the statement itself. It says the same as the
--- relations of `Statements`, and serves the code. Own.
+-- The check of a statement as a function: its parts in order, then the statement itself. It says
+-- the same as the relations of `Statements`, and serves the code. Own.
 use Rattle.std.specs.Prelude.{ℕ, true, not, List, [], ◌∷◌, ◌++◌, length, codes, Option, Some, None, Ok, Err}
 use Rattle.mm_base.specs.declared.place.Place.{Place}
 use Rattle.mm_base.specs.declared.code.TheConstants.Code.{S13, S14}
@@ -26,7 +26,8 @@ use Rattle.mm_unit_typing.specs.Made.{Made, made, begun, block_of, nodes_of}
 abbrev pub judge_type : List Class → TypeName → Checked Specified
 judge_type g x = wanted (specified g x.kind) (no_type x)
 
-abbrev pub may_stand : List Class → ℕ → List Var → TypeName → Specified → Option DeclaratorMark → Name → Checked (Unit {0})
+abbrev pub may_stand : List Class → ℕ → List Var → TypeName → Specified → Option DeclaratorMark
+    → Name → Checked (Unit {0})
 may_stand g outer vs x s mark name = do
   u ← demand (is_new outer vs name.text) (declared_twice name)
   demand (is_whole g mark s) (incomplete_type x)
@@ -41,7 +42,8 @@ abbrev pub judge_void : Here → Place → Checked (Unit {0})
 judge_void here p = demand (is_void here.result) (at S14 p (codes "return"))
 
 module _ (env : Environment) where
-  unfoldable pub judge_begin : Here → TypeName → Specified → List Var → ℕ → Option DeclaratorMark → Name → Initializer → Checked k.Stmt
+  unfoldable pub judge_begin : Here → TypeName → Specified → List Var → ℕ → Option DeclaratorMark
+      → Name → Initializer → Checked k.Stmt
   judge_begin here x s vs n mark name no_initial = do
     u ← may_stand env.classes here.outer vs x s mark name
     b ← wanted (begun n mark s) (wrong_kind mark name)
@@ -56,14 +58,17 @@ module _ (env : Environment) where
     Ok (k.run (k.set_local n c))
   judge_begin here x s vs n mark name (arguments es) = Err (unbuilt (mark_or mark name.place))
 
-  unfoldable pub judge_begins : Here → TypeName → Specified → List Var → List Ty → List Declarator → Checked (Made (List k.Stmt))
+  unfoldable pub judge_begins : Here → TypeName → Specified → List Var → List Ty → List Declarator
+      → Checked (Made (List k.Stmt))
   judge_begins here x s vs locals [] = Ok (made [] locals)
   judge_begins here x s vs locals (d ∷ ds) = do
     b ← judge_begin here x s vs (length locals) d.mark d.name d.initializer
-    rest ← judge_begins here x s (vs ++ declared_at s d (length locals) ∷ []) (locals ++ variable_type d.mark s ∷ []) ds
+    rest ← judge_begins here x s (vs ++ declared_at s d (length locals) ∷ [])
+        (locals ++ variable_type d.mark s ∷ []) ds
     Ok (made (b ∷ rest.tree) rest.locals)
 
-  unfoldable pub judge_variables : Here → List Var → List Ty → Variables → Checked (Made (List k.Stmt))
+  unfoldable pub judge_variables : Here → List Var → List Ty → Variables
+      → Checked (Made (List k.Stmt))
   judge_variables here vs locals x = do
     s ← judge_type env.classes x.type_name
     judge_begins here x.type_name s vs locals x.names
@@ -85,7 +90,8 @@ module _ (env : Environment) where
     x ← judge (inside env vs) e
     Ok (k.run x.core)
 
-  unfoldable pub judge_loop : List Var → Option Expr → Option Expr → Checked (Made (List k.Stmt)) → Checked (Made k.Stmt)
+  unfoldable pub judge_loop : List Var → Option Expr → Option Expr → Checked (Made (List k.Stmt))
+      → Checked (Made k.Stmt)
   judge_loop vs c s body = do
     test ← judge_test vs c
     step ← judge_step vs s
@@ -127,7 +133,8 @@ module _ (env : Environment) where
     judge_stmt here vs locals (for_do p start c s a) = do
       first ← judge_start (within here vs) vs locals start
       loop ← judge_loop (behind_start env.classes vs locals start) c s
-          (judge_stmt (turn_within here (behind_start env.classes vs locals start)) (behind_start env.classes vs locals start) first.locals a)
+          (judge_stmt (turn_within here (behind_start env.classes vs locals start))
+          (behind_start env.classes vs locals start) first.locals a)
       Ok (made (first.tree ++ loop.tree ∷ []) loop.locals)
     judge_stmt here vs locals (break p) = do
       u ← judge_jump here p (codes "break")

@@ -1,6 +1,6 @@
--- The check of a function's head and of its body as functions: their parts in order. They say the same as the relations of
--- `Heads`, `Functions` and `Bodies`, and serve the code. Own.
-use Rattle.std.specs.Prelude.{ℕ, ◌+◌, Bool, true, is_some, List, [], ◌∷◌, ◌++◌, length, Option, Some, None, Ok, Err}
+-- The check of a function's head and of its body as functions: their parts in order. They say the
+-- same as the relations of `Heads`, `Functions` and `Bodies`, and serve the code. Own.
+use Rattle.std.specs.Prelude.{ℕ, ◌+◌, Bool, List, [], ◌∷◌, ◌++◌, length, Option, Some, None, Ok, Err}
 use Rattle.mm_base.specs.declared.place.Place.{Place}
 use Rattle.mm_classes.specs.Classes.{Class}
 use Rattle.mm_classes.specs.declared.class.Member.{Member}
@@ -13,14 +13,13 @@ use Rattle.mm_syntax.specs.declared.decl.Head.{Head}
 use Rattle.mm_syntax.specs.Tree.{Stmt}
 use Rattle.mm_checks.specs.Checks.{Checked, ◌>>=◌, demand, wanted}
 use Rattle.mm_scopes.specs.declared.head.Var.{Var}
-use Rattle.mm_typing.specs.Calls.{qualified}
 use Rattle.mm_typing.specs.Objects.{complete_named, incomplete_class}
 use Rattle.mm_unit_typing.specs.Types.{Specified, type_with, value_type, wrong_kind, declared_twice, unbuilt}
 use Rattle.mm_unit_typing.specs.Scopes.{is_new, parameter, parameters_from}
 use Rattle.mm_unit_typing.specs.Made.{Made}
 use Rattle.mm_unit_typing.specs.Heads.{Heading, heading, wrong_parameter, few_params, too_many}
-use Rattle.mm_unit_typing.specs.Functions.{Declarations, known, may_declare, seen}
-use Rattle.mm_unit_typing.specs.Bodies.{body_here, first_locals, MemberHeading, member_heading, undeclared_member}
+use Rattle.mm_unit_typing.specs.Functions.{Declarations, may_declare, seen}
+use Rattle.mm_unit_typing.specs.Bodies.{body_here, first_locals, MemberHeading, member_heading, may_define, is_member, undeclared_member}
 use Rattle.mm_unit_typing.specs.Members.{is_new_method}
 use Rattle.mm_unit_typing.specs.Judge.{judge_type, is_yours, judge_stmt}
 
@@ -75,8 +74,8 @@ judge_member_head d class x = do
   s ← judge_type d.classes x.type_name
   ts ← judge_params d.classes 1 [] x.params.list
   c ← wanted (complete_named d.classes class.text) (incomplete_class class)
-  h ← judge_own_head (may_declare d.functions (qualified class.text x.name.text) (type_with x.mark s) ts true) class x s ts
-  u ← demand (is_some (known d.functions (qualified class.text x.name.text) ts)) (undeclared_member x.name)
+  h ← judge_own_head (may_define d class x (type_with x.mark s) ts) class x s ts
+  u ← demand (is_member d class x ts) (undeclared_member x.name)
   Ok (member_heading c h)
 
 unfoldable pub judge_method_head : List Class → List Member → Head → Checked Heading
@@ -87,7 +86,9 @@ judge_method_head g ms x = do
 
 -- ---- bodies
 
-unfoldable pub judge_body : Declarations → Option ℕ → Heading → List Param → Stmt → Checked (Made (List k.Stmt))
+unfoldable pub judge_body : Declarations → Option ℕ → Heading → List Param → Stmt
+    → Checked (Made (List k.Stmt))
 judge_body d class h params body =
-    judge_stmt (seen d class) (body_here h.result) (parameters_from d.classes (length (this_of class)) params)
+    judge_stmt (seen d class) (body_here h.result)
+        (parameters_from d.classes (length (this_of class)) params)
     (first_locals class h) body

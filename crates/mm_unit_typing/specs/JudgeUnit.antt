@@ -1,5 +1,5 @@
--- The check of a unit as a function: its parts in order. It says the same as the relations of `Units`, and serves the code.
--- Own.
+-- The check of a unit as a function: its parts in order. It says the same as the relations of
+-- `Units`, and serves the code. Own.
 use Rattle.std.specs.Prelude.{true, false, List, [], ◌∷◌, Some, None, Ok, Err}
 use Rattle.mm_core.specs.Units as units
 use Rattle.mm_syntax.specs.Tree.{Function, declaration, definition, member_definition, Decl, class_decl, function_decl, UnitTree}

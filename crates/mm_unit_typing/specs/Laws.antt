@@ -9,6 +9,7 @@ use Rattle.mm_unit_typing.specs.Units.{UnitTypes, UnitFaults}
 abbrev pub OneVerdict : Type 0
 OneVerdict = (u : UnitTree) → ExactlyOne (UnitTypes u) (UnitFaults u)
 
--- the classes of a unit that is typed make a class list: bases are complete and stand once, members are apart
+-- the classes of a unit that is typed make a class list: bases are complete and stand once, members
+-- are apart
 abbrev pub ClassesAreListed : Type 0
 ClassesAreListed = (u : UnitTree) (v : Checked) → UnitTypes u v → IsClassList v.program.classes

@@ -29,8 +29,8 @@ abbrev pub zero_set : ℕ → Option Ty → Option k.Stmt
 zero_set n None = None
 zero_set n (Some t) = Some (k.run (k.set_local n (zero_of t)))
 
--- What gives the n-th local its first value where no initializer stands: a class variable gets a new object, any other is
--- zero. A reference has none.
+-- What gives the n-th local its first value where no initializer stands: a class variable gets a
+-- new object, any other is zero. A reference has none.
 abbrev pub begun : ℕ → Option DeclaratorMark → Specified → Option k.Stmt
 begun n None (scalar t) = zero_set n (kept_type None (scalar t))
 begun n None (of_class c) = Some (k.make n)
@@ -38,7 +38,8 @@ begun n (Some mark) s = zero_set n (kept_type (Some mark) s)
 
 -- ---- blocks
 
--- A statement is checked as a list of statements, those of the block that it is or in which it stands. These are blocks.
+-- A statement is checked as a list of statements, those of the block that it is or in which it
+-- stands. These are blocks.
 abbrev pub is_block : t.Stmt → Bool
 is_block (t.block p ss) = true
 is_block (t.empty p) = true

@@ -1,5 +1,6 @@
--- The members that a class declares. ISO/IEC 14882:1998, 9.2 (class members), 9.3 (member functions), 11/3 (default access),
--- 12.4 (destructors), 13.1. Own: which kinds of fields there are.
+-- The members that a class declares. ISO/IEC 14882:1998, 9.2 (class members), 9.3 (member
+-- functions), 11/3 (default access), 12.4 (destructors), 13.1. Own: which kinds of fields there
+-- are.
 use Rattle.std.specs.Prelude.{◌≡◌, ℕ, Bool, true, false, not, ◌&&◌, ◌||◌, is_some, List, [], ◌∷◌, ◌++◌, map, filter, codes}
 use Rattle.std.specs.List.{list_any}
 use Rattle.std.specs.Str.{bytes_eq}
@@ -45,7 +46,8 @@ access_behind a other = a
 
 -- ---- one scope
 
--- functions of one name differ in the types of their parameters, and any other member has a name of its own (9.2/1, 13.1)
+-- functions of one name differ in the types of their parameters, and any other member has a name of
+-- its own (9.2/1, 13.1)
 abbrev pub is_new_member : List Member → List ℕ → Bool
 is_new_member ms name = not (list_any (λ (m : Member). bytes_eq m.name name) ms)
 
@@ -58,7 +60,8 @@ is_new_method ms name params = not (list_any (clashes name params) ms)
 -- ---- fields
 
 abbrev pub field_member : Access → Name → Ty → Member
-field_member a name t = record { name = name.text; access = a; kind = kind.Field t; place = name.place }
+field_member a name t =
+    record { name = name.text; access = a; kind = kind.Field t; place = name.place }
 
 -- behind the members `ms`
 abbrev pub FieldIs : Access → List Member → Specified → FieldName → Member → Type 0
@@ -70,7 +73,8 @@ FieldIs a ms s x =
 
 abbrev pub FieldIsNot : List Member → Specified → FieldName → Fault → Type 0
 FieldIsNot ms s x =
-    First (Met (is_new_member ms x.name.text)) (Unmet (is_new_member ms x.name.text) (declared_twice x.name)) λ u.
+    First (Met (is_new_member ms x.name.text))
+    (Unmet (is_new_member ms x.name.text) (declared_twice x.name)) λ u.
     First (Is (kept_type x.mark s)) (IsMissing (kept_type x.mark s) (wrong_kind x.mark x.name)) λ t.
     IsNotYours x.name
 
@@ -80,7 +84,8 @@ FieldsAre a ms s (x ∷ xs) = Then (FieldIs a ms s x) λ m. FieldsAre a (ms ++ m
 
 abbrev pub SomeIsNoField : Access → List Member → Specified → List FieldName → Fault → Type 0
 SomeIsNoField a ms s [] = λ f. ⊥
-SomeIsNoField a ms s (x ∷ xs) = First (FieldIs a ms s x) (FieldIsNot ms s x) λ m. SomeIsNoField a (ms ++ m ∷ []) s xs
+SomeIsNoField a ms s (x ∷ xs) =
+    First (FieldIs a ms s x) (FieldIsNot ms s x) λ m. SomeIsNoField a (ms ++ m ∷ []) s xs
 
 -- ---- functions
 
@@ -141,7 +146,8 @@ FunctionIsNot g class ms (t.method p virtual_at x body) =
     First (IsOrdinary virtual_at) (IsVirtual virtual_at) λ u.
     MethodHeadNot g ms x
 FunctionIsNot g class ms (t.destructor p virtual_at word has_void) =
-    First (Met (bytes_eq word.text class)) (Unmet (bytes_eq word.text class) (undeclared_member word)) λ u.
+    First (Met (bytes_eq word.text class))
+    (Unmet (bytes_eq word.text class) (undeclared_member word)) λ u.
     Unmet (is_new_member ms (destructor_name class)) (declared_twice word)
 FunctionIsNot g class ms other = λ f. unbuilt (place_of other) ≡ f
 
@@ -155,12 +161,15 @@ ItemIs g class a ms (t.function_item f) = Then (FunctionIs g class a ms f) λ m 
 
 abbrev pub ItemIsNot : List Class → List ℕ → Access → List Member → t.Item → Fault → Type 0
 ItemIsNot g class a ms (t.access w) = λ f. ⊥
-ItemIsNot g class a ms (t.fields x names) = First (Names g x) (NamesNone g x) λ s. SomeIsNoField a ms s names
+ItemIsNot g class a ms (t.fields x names) =
+    First (Names g x) (NamesNone g x) λ s. SomeIsNoField a ms s names
 ItemIsNot g class a ms (t.function_item f) = FunctionIsNot g class ms f
 
-abbrev pub ItemsAre : List Class → List ℕ → Access → List Member → List t.Item → List Member → Type 0
+abbrev pub ItemsAre : List Class → List ℕ → Access → List Member → List t.Item → List Member
+    → Type 0
 ItemsAre g class a ms [] = λ v. ms ≡ v
-ItemsAre g class a ms (x ∷ xs) = Then (ItemIs g class a ms x) λ next. ItemsAre g class (access_behind a x) next xs
+ItemsAre g class a ms (x ∷ xs) =
+    Then (ItemIs g class a ms x) λ next. ItemsAre g class (access_behind a x) next xs
 
 abbrev pub SomeItemIsNot : List Class → List ℕ → Access → List Member → List t.Item → Fault → Type 0
 SomeItemIsNot g class a ms [] = λ f. ⊥
@@ -175,7 +184,8 @@ abbrev pub is_called : List ℕ → Member → Bool
 is_called class m = not (is_field m) && not (bytes_eq m.name (destructor_name class))
 
 abbrev pub method_function : List ℕ → Member → k.Function
-method_function class m = declared_function true (qualified class m.name) m.place (result_in m.kind) (params_in m.kind)
+method_function class m =
+    declared_function true (qualified class m.name) m.place (result_in m.kind) (params_in m.kind)
 
 -- in the order of their declarations
 abbrev pub method_functions : List ℕ → List Member → List k.Function

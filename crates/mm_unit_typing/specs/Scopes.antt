@@ -1,7 +1,9 @@
--- Scopes, and the locals that declarations make. (ISO/IEC 14882:1998, 3.3.1, 3.3.2, 6.4, 6.5 and 6.7.)
+-- Scopes, and the locals that declarations make. (ISO/IEC 14882:1998, 3.3.1, 3.3.2, 6.4, 6.5 and
+-- 6.7.)
 --
--- The variables that are seen stand in one list, the innermost last; a scope is what stands in it behind a number of
--- outer ones. Locals are numbered: the parameters, then the variables in the order of their declarations.
+-- The variables that are seen stand in one list, the innermost last; a scope is what stands in it
+-- behind a number of outer ones. Locals are numbered: the parameters, then the variables in the
+-- order of their declarations.
 use Rattle.std.specs.Prelude.{ℕ, ◌+◌, Bool, true, not, is_some, List, [], ◌∷◌, ◌++◌, length, drop, Option, Some, None}
 use Rattle.mm_classes.specs.declared.class.Ty.{Ty}
 use Rattle.mm_classes.specs.Classes.{Class}

@@ -1,6 +1,7 @@
--- What a statement is typed as, and which fault it has. (ISO/IEC 14882:1998, 3.3, 6 and 8.5. Own: the order of faults.
--- Those of the parts of a statement count before its own, in the order of the text; a missing conversion of a
--- condition counts right behind the condition; those of a declarator come by their codes.)
+-- What a statement is typed as, and which fault it has. (ISO/IEC 14882:1998, 3.3, 6 and 8.5. Own:
+-- the order of faults. Those of the parts of a statement count before its own, in the order of the
+-- text; a missing conversion of a condition counts right behind the condition; those of a
+-- declarator come by their codes.)
 use Rattle.std.specs.Prelude.{◌≡◌, ℕ, true, not, List, [], ◌∷◌, ◌++◌, length, codes, Option, Some, None}
 use Rattle.mm_base.specs.declared.code.TheConstants.Code.{S13, S14}
 use Rattle.mm_classes.specs.Classes.{Class}
@@ -26,22 +27,26 @@ use Rattle.mm_unit_typing.specs.Made.{Made, made, begun, block_of, nodes_of}
 -- ---- what a declarator is asked
 
 -- the name is new in its scope, and a class variable is of a complete class
-abbrev pub MayStand : List Class → ℕ → List Var → TypeName → Specified → Option DeclaratorMark → Name → Unit {0} → Type 0
+abbrev pub MayStand : List Class → ℕ → List Var → TypeName → Specified → Option DeclaratorMark
+    → Name → Unit {0} → Type 0
 MayStand g outer vs x s mark name =
     Then (Met (is_new outer vs name.text)) λ u.
     Met (is_whole g mark s)
 
-abbrev pub MayNotStand : List Class → ℕ → List Var → TypeName → Specified → Option DeclaratorMark → Name → Fault → Type 0
+abbrev pub MayNotStand : List Class → ℕ → List Var → TypeName → Specified → Option DeclaratorMark
+    → Name → Fault → Type 0
 MayNotStand g outer vs x s mark name =
-    First (Met (is_new outer vs name.text)) (Unmet (is_new outer vs name.text) (declared_twice name)) λ u.
+    First (Met (is_new outer vs name.text))
+    (Unmet (is_new outer vs name.text) (declared_twice name)) λ u.
     Unmet (is_whole g mark s) (incomplete_type x)
 
 module _ (env : Environment) where
   -- ---- declarations
 
-  -- The statement that gives a variable its first value: the local of number n. Its type is that of the words s of x with
-  -- the mark.
-  abbrev pub Begins : Here → TypeName → Specified → List Var → ℕ → Option DeclaratorMark → Name → Initializer → k.Stmt → Type 0
+  -- The statement that gives a variable its first value: the local of number n. Its type is that of
+  -- the words s of x with the mark.
+  abbrev pub Begins : Here → TypeName → Specified → List Var → ℕ → Option DeclaratorMark → Name
+      → Initializer → k.Stmt → Type 0
   Begins here x s vs n mark name no_initial =
       Then (MayStand env.classes here.outer vs x s mark name) λ u.
       Then (Is (begun n mark s)) λ b.
@@ -56,35 +61,44 @@ module _ (env : Environment) where
       k.run (k.set_local n c) ≡ v
   Begins here x s vs n mark name (arguments es) = λ v. ⊥
 
-  abbrev pub BeginsNot : Here → TypeName → Specified → List Var → ℕ → Option DeclaratorMark → Name → Initializer → Fault → Type 0
+  abbrev pub BeginsNot : Here → TypeName → Specified → List Var → ℕ → Option DeclaratorMark → Name
+      → Initializer → Fault → Type 0
   BeginsNot here x s vs n mark name no_initial =
-      First (MayStand env.classes here.outer vs x s mark name) (MayNotStand env.classes here.outer vs x s mark name) λ u.
+      First (MayStand env.classes here.outer vs x s mark name)
+      (MayNotStand env.classes here.outer vs x s mark name) λ u.
       First (Is (begun n mark s)) (IsMissing (begun n mark s) (wrong_kind mark name)) λ b.
       IsNotYours name
   BeginsNot here x s vs n mark name (initial e) =
       First (Types (inside env vs) e) (Faults (inside env vs) e) λ y.
-      First (MayStand env.classes here.outer vs x s mark name) (MayNotStand env.classes here.outer vs x s mark name) λ u.
+      First (MayStand env.classes here.outer vs x s mark name)
+      (MayNotStand env.classes here.outer vs x s mark name) λ u.
       First (Is (value_type mark s)) (IsMissing (value_type mark s) (wrong_kind mark name)) λ t.
       First (Becomes (inside env vs) t y) (BecomesNot (inside env vs) t e y) λ c.
       IsNotYours name
   BeginsNot here x s vs n mark name (arguments es) = λ f. unbuilt (mark_or mark name.place) ≡ f
 
   -- a variable is seen behind its own initializer, by the next ones too
-  abbrev pub AllBegin : Here → TypeName → Specified → List Var → List Ty → List Declarator → Made (List k.Stmt) → Type 0
+  abbrev pub AllBegin : Here → TypeName → Specified → List Var → List Ty → List Declarator
+      → Made (List k.Stmt) → Type 0
   AllBegin here x s vs locals [] = λ v. made [] locals ≡ v
   AllBegin here x s vs locals (d ∷ ds) =
       Then (Begins here x s vs (length locals) d.mark d.name d.initializer) λ b.
-      Then (AllBegin here x s (vs ++ declared_at s d (length locals) ∷ []) (locals ++ variable_type d.mark s ∷ []) ds) λ rest v.
+      Then (AllBegin here x s (vs ++ declared_at s d (length locals) ∷ [])
+      (locals ++ variable_type d.mark s ∷ []) ds) λ rest v.
       made (b ∷ rest.tree) rest.locals ≡ v
 
-  abbrev pub SomeBeginsNot : Here → TypeName → Specified → List Var → List Ty → List Declarator → Fault → Type 0
+  abbrev pub SomeBeginsNot : Here → TypeName → Specified → List Var → List Ty → List Declarator
+      → Fault → Type 0
   SomeBeginsNot here x s vs locals [] = λ f. ⊥
   SomeBeginsNot here x s vs locals (d ∷ ds) =
-      First (Begins here x s vs (length locals) d.mark d.name d.initializer) (BeginsNot here x s vs (length locals) d.mark d.name d.initializer) λ b.
-      SomeBeginsNot here x s (vs ++ declared_at s d (length locals) ∷ []) (locals ++ variable_type d.mark s ∷ []) ds
+      First (Begins here x s vs (length locals) d.mark d.name d.initializer)
+      (BeginsNot here x s vs (length locals) d.mark d.name d.initializer) λ b.
+      SomeBeginsNot here x s (vs ++ declared_at s d (length locals) ∷ [])
+          (locals ++ variable_type d.mark s ∷ []) ds
 
   abbrev pub VariablesType : Here → List Var → List Ty → Variables → Made (List k.Stmt) → Type 0
-  VariablesType here vs locals x = Then (Names env.classes x.type_name) λ s. AllBegin here x.type_name s vs locals x.names
+  VariablesType here vs locals x =
+      Then (Names env.classes x.type_name) λ s. AllBegin here x.type_name s vs locals x.names
 
   abbrev pub VariablesFault : Here → List Var → List Ty → Variables → Fault → Type 0
   VariablesFault here vs locals x =
@@ -96,7 +110,8 @@ module _ (env : Environment) where
   -- what stands before the loop, in its block; where nothing stands there, an empty block
   abbrev pub StartTypes : Here → List Var → List Ty → Start → Made (List k.Stmt) → Type 0
   StartTypes here vs locals no_start = λ v. made (block_of [] ∷ []) locals ≡ v
-  StartTypes here vs locals (start_expr e) = Then (Types (inside env vs) e) λ x v. made (k.run x.core ∷ []) locals ≡ v
+  StartTypes here vs locals (start_expr e) =
+      Then (Types (inside env vs) e) λ x v. made (k.run x.core ∷ []) locals ≡ v
   StartTypes here vs locals (start_variables x) = VariablesType here vs locals x
 
   abbrev pub StartFaults : Here → List Var → List Ty → Start → Fault → Type 0
@@ -123,7 +138,8 @@ module _ (env : Environment) where
   StepFaults vs (Some e) = Faults (inside env vs) e
 
   -- the loop of a `for`, whose body is typed so
-  abbrev pub LoopTypes : List Var → Option Expr → Option Expr → (Made (List k.Stmt) → Type 0) → Made k.Stmt → Type 0
+  abbrev pub LoopTypes : List Var → Option Expr → Option Expr → (Made (List k.Stmt) → Type 0)
+      → Made k.Stmt → Type 0
   LoopTypes vs c s IsBody =
       Then (TestTypes vs c) λ test.
       Then (StepTypes vs s) λ step.
@@ -138,13 +154,15 @@ module _ (env : Environment) where
 
   -- ---- statements
 
-  -- Typed as a list of statements: those of the block that it is, or those that stand where it stands. Each statement
-  -- under another has a scope of its own, and so has a `for` with its first part.
+  -- Typed as a list of statements: those of the block that it is, or those that stand where it
+  -- stands. Each statement under another has a scope of its own, and so has a `for` with its first
+  -- part.
   abbrev mutual
     pub StmtTypes : Here → List Var → List Ty → Stmt → Made (List k.Stmt) → Type 0
     StmtTypes here vs locals (block p ss) = StmtsType (within here vs) vs locals ss
     StmtTypes here vs locals (empty p) = λ v. made [] locals ≡ v
-    StmtTypes here vs locals (run p e) = Then (Types (inside env vs) e) λ x v. made (k.run x.core ∷ []) locals ≡ v
+    StmtTypes here vs locals (run p e) =
+        Then (Types (inside env vs) e) λ x v. made (k.run x.core ∷ []) locals ≡ v
     StmtTypes here vs locals (declare p x) = VariablesType here vs locals x
     StmtTypes here vs locals (if_then p e a) =
         Then (TypesAs (inside env vs) ty.Bool e) λ c.
@@ -166,10 +184,13 @@ module _ (env : Environment) where
     StmtTypes here vs locals (for_do p start c s a) =
         Then (StartTypes (within here vs) vs locals start) λ first.
         Then (LoopTypes (behind_start env.classes vs locals start) c s
-        (StmtTypes (turn_within here (behind_start env.classes vs locals start)) (behind_start env.classes vs locals start) first.locals a)) λ loop v.
+        (StmtTypes (turn_within here (behind_start env.classes vs locals start))
+        (behind_start env.classes vs locals start) first.locals a)) λ loop v.
         made (first.tree ++ loop.tree ∷ []) loop.locals ≡ v
-    StmtTypes here vs locals (break p) = Then (Met here.in_loop) λ u v. made (k.break ∷ []) locals ≡ v
-    StmtTypes here vs locals (continue p) = Then (Met here.in_loop) λ u v. made (k.continue ∷ []) locals ≡ v
+    StmtTypes here vs locals (break p) =
+        Then (Met here.in_loop) λ u v. made (k.break ∷ []) locals ≡ v
+    StmtTypes here vs locals (continue p) =
+        Then (Met here.in_loop) λ u v. made (k.continue ∷ []) locals ≡ v
     StmtTypes here vs locals (return_nothing p) =
         Then (Met (is_void here.result)) λ u v. made (k.return_nothing ∷ []) locals ≡ v
     StmtTypes here vs locals (return p e) =
@@ -197,24 +218,30 @@ module _ (env : Environment) where
         StmtFaults (within here vs) vs locals a
     StmtFaults here vs locals (if_else p e a b) =
         First (TypesAs (inside env vs) ty.Bool e) (FaultsAs (inside env vs) ty.Bool e) λ c.
-        First (StmtTypes (within here vs) vs locals a) (StmtFaults (within here vs) vs locals a) λ x.
+        First (StmtTypes (within here vs) vs locals a)
+        (StmtFaults (within here vs) vs locals a) λ x.
         StmtFaults (within here vs) vs x.locals b
     StmtFaults here vs locals (while_do p e a) =
         First (TypesAs (inside env vs) ty.Bool e) (FaultsAs (inside env vs) ty.Bool e) λ c.
         StmtFaults (turn_within here vs) vs locals a
     StmtFaults here vs locals (do_while p a e) =
-        First (StmtTypes (turn_within here vs) vs locals a) (StmtFaults (turn_within here vs) vs locals a) λ x.
+        First (StmtTypes (turn_within here vs) vs locals a)
+        (StmtFaults (turn_within here vs) vs locals a) λ x.
         FaultsAs (inside env vs) ty.Bool e
     StmtFaults here vs locals (for_do p start c s a) =
-        First (StartTypes (within here vs) vs locals start) (StartFaults (within here vs) vs locals start) λ first.
+        First (StartTypes (within here vs) vs locals start)
+        (StartFaults (within here vs) vs locals start) λ first.
         LoopFaults (behind_start env.classes vs locals start) c s
-        (StmtFaults (turn_within here (behind_start env.classes vs locals start)) (behind_start env.classes vs locals start) first.locals a)
+        (StmtFaults (turn_within here (behind_start env.classes vs locals start))
+        (behind_start env.classes vs locals start) first.locals a)
     StmtFaults here vs locals (break p) = Unmet here.in_loop (at S13 p (codes "break"))
     StmtFaults here vs locals (continue p) = Unmet here.in_loop (at S13 p (codes "continue"))
-    StmtFaults here vs locals (return_nothing p) = Unmet (is_void here.result) (at S14 p (codes "return"))
+    StmtFaults here vs locals (return_nothing p) =
+        Unmet (is_void here.result) (at S14 p (codes "return"))
     StmtFaults here vs locals (return p e) =
         First (Types (inside env vs) e) (Faults (inside env vs) e) λ x.
-        First (Met (not (is_void here.result))) (Unmet (not (is_void here.result)) (at S14 p (codes "return"))) λ u.
+        First (Met (not (is_void here.result)))
+        (Unmet (not (is_void here.result)) (at S14 p (codes "return"))) λ u.
         BecomesNot (inside env vs) here.result e x
 
     pub StmtsFault : Here → List Var → List Ty → Stmts → Fault → Type 0

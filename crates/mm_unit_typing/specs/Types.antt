@@ -1,5 +1,6 @@
--- Types and names that a declaration writes, and the faults of a declarator. ISO/IEC 14882:1998, 3.3.1, 7.1.5.2
--- (simple type specifiers), 8.3.1 (pointers), 8.3.2 (references), 8.5; names that begin with `mm_` are own.
+-- Types and names that a declaration writes, and the faults of a declarator. ISO/IEC 14882:1998,
+-- 3.3.1, 7.1.5.2 (simple type specifiers), 8.3.1 (pointers), 8.3.2 (references), 8.5; names that
+-- begin with `mm_` are own.
 use Rattle.std.specs.Prelude.{ℕ, Bool, true, not, if◌then◌else◌, List, [], take, codes, Option, Some, None}
 use Rattle.std.specs.Str.{bytes_eq}
 use Rattle.mm_base.specs.declared.place.Place.{Place}
@@ -56,7 +57,8 @@ abbrev pub compound_type : Indirection → ℕ → Ty
 compound_type indirection.Pointer c = ty.Ptr c
 compound_type indirection.Reference c = ty.Ref c
 
--- `*` and `&` follow the names of classes alone, and objects are shown by pointers and references alone
+-- `*` and `&` follow the names of classes alone, and objects are shown by pointers and references
+-- alone
 abbrev pub type_with : Option DeclaratorMark → Specified → Option Ty
 type_with None (scalar t) = Some t
 type_with None (of_class c) = None

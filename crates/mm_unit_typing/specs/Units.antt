@@ -1,5 +1,5 @@
--- What a unit is typed as, and which is its first fault. ISO/IEC 14882:1998, 3.5, 8.4. Own: declarations are taken in
--- order.
+-- What a unit is typed as, and which is its first fault. ISO/IEC 14882:1998, 3.5, 8.4. Own:
+-- declarations are taken in order.
 use Rattle.std.specs.Prelude.{◌≡◌, true, false, List, [], ◌∷◌, Some, None}
 use Rattle.mm_core.specs.Units.{Checked}
 use Rattle.mm_syntax.specs.Tree.{Function, declaration, definition, member_definition, Decl, class_decl, function_decl, UnitTree}
