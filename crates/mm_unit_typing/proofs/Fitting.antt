@@ -82,7 +82,7 @@ module _ (g : List Class) where
   params_typed n vs (q ∷ qs) ts h t m =
       let p = h.1 in
       let one : IsTyped (length g) h.0 = subst (IsTyped (length g)) p.2.2.2.2.2
-          (value_below (length g) q.mark p.2.0 p.2.2.2.0 (below g q.type_name.kind p.2.0 p.2.1) p.2.2.2.1) in
+      (value_below (length g) q.mark p.2.0 p.2.2.2.0 (below g q.type_name.kind p.2.0 p.2.1) p.2.2.2.1) in
       elim (subst (λ z. Has z t) (sym h.2.2) m) [
         | first e ↦ subst (IsTyped (length g)) e one
         | later r ↦ params_typed (n + 1) (vs ++ parameter g n q) qs h.2.0 h.2.1 t r

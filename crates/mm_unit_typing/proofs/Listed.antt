@@ -1,5 +1,5 @@
 -- The classes of what is typed make a class list.
-use Rattle.std.proofs.Common.{◌≡◌, ℕ, ◌+◌, ◌<◌, ◌≤◌, ◌^◌, Bool, true, false, not, ◌&&◌, List, [], ◌∷◌, ◌++◌, length, map, refl, sym, subst, ap, ◌∙◌, inl, inr, ◌⊎◌, arith, length-append}
+use Rattle.std.proofs.Common.{◌≡◌, ℕ, ◌<◌, ◌≤◌, ◌^◌, Bool, true, false, not, ◌&&◌, List, [], ◌∷◌, ◌++◌, length, map, refl, sym, subst, ap, ◌∙◌, inl, inr, arith, length-append}
 use Rattle.std.specs.Prelude.{Option, Some, None, is_some, nat_lt, cond, if◌then◌else◌}
 use Rattle.std.specs.Str.{bytes_eq}
 use Rattle.std.proofs.lemmas.Bool.Decides.{nat_tests}
@@ -9,7 +9,7 @@ use Rattle.std.proofs.lemmas.Slice.Eq.{bytes_eq-Decides}
 use Rattle.mm_classes.specs.declared.class.Access.{Access}
 use Rattle.mm_classes.specs.declared.class.Base.{Base}
 use Rattle.mm_classes.specs.declared.class.Member.{Member}
-use Rattle.mm_classes.specs.Adding.{added, declared, fresh, AreKnown, CanAdd}
+use Rattle.mm_classes.specs.Adding.{declared, fresh, AreKnown, CanAdd}
 use Rattle.mm_classes.specs.Classes.{Class, class_at, names_in, unknown, IsClassList}
 use Rattle.mm_classes.specs.Lists.{Has, first, later, Distinct, has}
 use Rattle.mm_classes.proofs.Answering.{place_from_Has}
@@ -23,10 +23,10 @@ use Rattle.mm_syntax.specs.declared.name.Name.{Name}
 use Rattle.mm_syntax.specs.declared.decl.Base.{Base as BaseName}
 use Rattle.mm_syntax.specs.declared.decl.Head.{Head}
 use Rattle.mm_syntax.specs.Tree as t
-use Rattle.mm_typing.specs.Objects.{complete_only, complete_named, is_complete}
+use Rattle.mm_typing.specs.Objects.{complete_only, is_complete}
 use Rattle.mm_unit_typing.specs.Heads.{Heading}
 use Rattle.mm_unit_typing.specs.Functions.{Declarations, nothing, known, declared_function, with_function}
-use Rattle.mm_unit_typing.specs.Members.{default_access, ItemsAre}
+use Rattle.mm_unit_typing.specs.Members.{default_access}
 use Rattle.mm_unit_typing.specs.Classes.{class_number, with_class, is_new_base, BasesAre, is_new_class, is_no_function, few_classes, is_small, completed, MethodBody, ItemBody, BodiesAre, DefinitionTypes, ClassTypes}
 use Rattle.mm_unit_typing.specs.Units.{FunctionTypes, DeclTypes, DeclsType}
 use Rattle.mm_unit_typing.specs.Laws.{ClassesAreListed}
@@ -54,10 +54,10 @@ one_more g bs b h k new = (
     | inr r ↦ elim r [ first e ↦ subst (λ (z : Base). (class_at g z.class).complete ≡ true) e k | later w ↦ elim w [ ] ]
   ],
   subst Distinct (sym (map-append (λ (x : Base). x.class) bs (b ∷ [])))
-  (Distinct-append (map (λ (x : Base). x.class) bs) (b.class ∷ []) h.1 ((λ w. elim w [ ]), tt) (λ x i j. elim j [
-    | first e ↦ not_both (has (map (λ (x : Base). x.class) bs) b.class) (has-Has (map (λ (x : Base). x.class) bs) b.class (subst (Has (map (λ (x : Base). x.class) bs)) (sym e) i)) new
-    | later w ↦ elim w [ ]
-  ])),
+      (Distinct-append (map (λ (x : Base). x.class) bs) (b.class ∷ []) h.1 ((λ w. elim w [ ]), tt) (λ x i j. elim j [
+        | first e ↦ not_both (has (map (λ (x : Base). x.class) bs) b.class) (has-Has (map (λ (x : Base). x.class) bs) b.class (subst (Has (map (λ (x : Base). x.class) bs)) (sym e) i)) new
+        | later w ↦ elim w [ ]
+      ])),
 )
 
 bases_fit : (g : List Class) (a : Access) (bs : List Base) (xs : List BaseName) (v : List Base) → AreBases g bs → BasesAre g a bs xs v → AreBases g v
@@ -89,14 +89,14 @@ unnamed g name l h =
 declared_fits : (g : List Class) (name : List ℕ) → IsClassList g → IsClassList (declared (class_number g name) g name) × (class_number g name < length (declared (class_number g name) g name))
 declared_fits g name ok = elim (nat_lt (class_number g name) (length g)) as (λ b. nat_lt (class_number g name) (length g) ≡ b
     → IsClassList (cond b g (g ++ fresh name ∷ [])) × (class_number g name < length (cond b g (g ++ fresh name ∷ [])))) [
-  | true ↦ λ e. (ok, low e)
-  | false ↦ λ e. (declared-valid g name ok (unnamed g name (high e)), (let a = length-append g (fresh name ∷ []) in let l = number_low g name in omega arith))
-] refl where
-  low : nat_lt (class_number g name) (length g) ≡ true → class_number g name < length g
-  low e = grind (arith, nat_tests)
+      | true ↦ λ e. (ok, low e)
+      | false ↦ λ e. (declared-valid g name ok (unnamed g name (high e)), (let a = length-append g (fresh name ∷ []) in let l = number_low g name in omega arith))
+    ] refl where
+      low : nat_lt (class_number g name) (length g) ≡ true → class_number g name < length g
+      low e = grind (arith, nat_tests)
 
-  high : nat_lt (class_number g name) (length g) ≡ false → length g ≤ class_number g name
-  high e = grind (arith, nat_tests)
+      high : nat_lt (class_number g name) (length g) ≡ false → length g ≤ class_number g name
+      high e = grind (arith, nat_tests)
 
 -- ---- a class that is completed
 
@@ -169,9 +169,9 @@ class_fits d (t.class_definition p key name bases items text) v ok e =
 with_function_keeps : (d : Declarations) (name : Name) (h : Heading) → (with_function d name h).classes ≡ d.classes
 with_function_keeps d name h = elim (is_some (known d.functions name.text h.params)) as (λ b.
     (if b then d else record d { functions = d.functions ++ declared_function false name.text name.place h.result h.params ∷ [] }).classes ≡ d.classes) [
-  | true ↦ refl
-  | false ↦ refl
-]
+      | true ↦ refl
+      | false ↦ refl
+    ]
 
 function_keeps : (d : Declarations) (x : t.Function) (v : Declarations) → FunctionTypes d x v → v.classes ≡ d.classes
 function_keeps d (t.declaration p x) v e = ap (λ (z : Declarations). z.classes) (sym e.2) ∙ with_function_keeps d x.name e.0

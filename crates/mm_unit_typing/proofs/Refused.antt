@@ -1,10 +1,9 @@
 -- Small units that have a fault, and which is their first: by computation.
-use Rattle.std.proofs.Common.{◌≡◌, List, [], ◌∷◌, refl, codes}
+use Rattle.std.proofs.Common.{◌≡◌, [], ◌∷◌, refl, codes}
 use Rattle.std.specs.Prelude.{Some, None, false, Err}
 use Rattle.mm_base.specs.declared.code.TheConstants.Code.{S1, S2, S3, S4, S6, S7, S11, S12, S18, S21}
 use Rattle.mm_syntax.specs.declared.name.Access.TheVariants as word
 use Rattle.mm_syntax.specs.declared.name.AssignOperator.TheVariants as assign
-use Rattle.mm_syntax.specs.declared.name.BinaryOperator.TheVariants as binary
 use Rattle.mm_syntax.specs.declared.name.ClassKey.TheVariants as key
 use Rattle.mm_syntax.specs.declared.name.Indirection.TheVariants as indirection
 use Rattle.mm_syntax.specs.declared.name.MemberOperator.TheVariants as member

@@ -1,6 +1,6 @@
 -- Words by which small units are written as trees.
 use Rattle.std.proofs.Common.{ℕ, List, [], ◌∷◌}
-use Rattle.std.specs.Prelude.{Bool, false, Option, Some, None}
+use Rattle.std.specs.Prelude.{false, Option, None}
 use Rattle.mm_base.specs.declared.place.Place.{Place}
 use Rattle.mm_syntax.specs.declared.name.Name.{Name}
 use Rattle.mm_syntax.specs.declared.name.Number.{Number}

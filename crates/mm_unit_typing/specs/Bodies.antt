@@ -35,13 +35,13 @@ abbrev pub BodyTypes : Declarations → Option ℕ → Heading → List Param �
     → Type 0
 BodyTypes d class h params body =
     StmtTypes (seen d class) (body_here h.result)
-        (parameters_from d.classes (length (this_of class)) params)
+    (parameters_from d.classes (length (this_of class)) params)
     (first_locals class h) body
 
 abbrev pub BodyFaults : Declarations → Option ℕ → Heading → List Param → Stmt → Fault → Type 0
 BodyFaults d class h params body =
     StmtFaults (seen d class) (body_here h.result)
-        (parameters_from d.classes (length (this_of class)) params)
+    (parameters_from d.classes (length (this_of class)) params)
     (first_locals class h) body
 
 -- With the function of this name and heading defined by what its body is made: the locals behind

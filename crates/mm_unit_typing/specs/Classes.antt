@@ -196,11 +196,11 @@ ClassTypes d (t.class_declaration p key name) =
     λ u v. with_class d name ≡ v
 ClassTypes d (t.class_definition p key name bases items text) =
     DefinitionTypes (with_class d name) (class_number d.classes name.text) name
-        (default_access key) bases items text
+    (default_access key) bases items text
 
 abbrev pub ClassFaults : Declarations → t.Class → Fault → Type 0
 ClassFaults d (t.class_declaration p key name) =
     OwnClassNot (is_no_function d.functions name) (few_classes (with_class d name).classes) name
 ClassFaults d (t.class_definition p key name bases items text) =
     DefinitionFaults (with_class d name) (class_number d.classes name.text) name
-        (default_access key) bases items text
+    (default_access key) bases items text

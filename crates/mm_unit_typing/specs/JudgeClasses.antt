@@ -128,4 +128,4 @@ judge_class d (t.class_declaration p key name) = do
   Ok (with_class d name)
 judge_class d (t.class_definition p key name bases items text) =
     judge_definition (with_class d name) (class_number d.classes name.text) name
-        (default_access key) bases items text
+    (default_access key) bases items text

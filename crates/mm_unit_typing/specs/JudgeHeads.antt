@@ -90,5 +90,5 @@ unfoldable pub judge_body : Declarations → Option ℕ → Heading → List Par
     → Checked (Made (List k.Stmt))
 judge_body d class h params body =
     judge_stmt (seen d class) (body_here h.result)
-        (parameters_from d.classes (length (this_of class)) params)
+    (parameters_from d.classes (length (this_of class)) params)
     (first_locals class h) body

@@ -94,7 +94,7 @@ module _ (env : Environment) where
       First (Begins here x s vs (length locals) d.mark d.name d.initializer)
       (BeginsNot here x s vs (length locals) d.mark d.name d.initializer) λ b.
       SomeBeginsNot here x s (vs ++ declared_at s d (length locals) ∷ [])
-          (locals ++ variable_type d.mark s ∷ []) ds
+      (locals ++ variable_type d.mark s ∷ []) ds
 
   abbrev pub VariablesType : Here → List Var → List Ty → Variables → Made (List k.Stmt) → Type 0
   VariablesType here vs locals x =
