@@ -49,7 +49,7 @@ module _ (g : List Class) (class : List ℕ) where
   item a ms (t.fields x names) = part (type_reads g x) λ s. fields a ms s names
   item a ms (t.function_item f) = last (function a ms f) _
 
-  items_read : (a : Access) (ms : List Member) (xs : List t.Item) → Reads (judge_items g class a ms xs) (ItemsAre g class a ms xs) (SomeItemIsNot g class a ms xs)
+  pub items_read : (a : Access) (ms : List Member) (xs : List t.Item) → Reads (judge_items g class a ms xs) (ItemsAre g class a ms xs) (SomeItemIsNot g class a ms xs)
   unfolding judge_items
   items_read a ms [] = gives _
   items_read a ms (x ∷ xs) = part (item a ms x) λ next. items_read (access_behind a x) next xs
@@ -61,14 +61,14 @@ module _ (g : List Class) (a : Access) where
   unfolding judge_base
   base bs x = part (is_there _ _) λ b. last (met _ _) _
 
-  bases_read : (bs : List Base) (xs : List BaseName) → Reads (judge_bases g a bs xs) (BasesAre g a bs xs) (SomeIsNoBase g a bs xs)
+  pub bases_read : (bs : List Base) (xs : List BaseName) → Reads (judge_bases g a bs xs) (BasesAre g a bs xs) (SomeIsNoBase g a bs xs)
   unfolding judge_bases
   bases_read bs [] = gives _
   bases_read bs (x ∷ xs) = part (base bs x) λ b. bases_read (bs ++ b ∷ []) xs
 
 -- ---- the class itself, and the bodies in it
 
-own_class : (fits small : Bool) (name : Name) → Reads (judge_own_class fits small name) (OwnClass fits small name) (OwnClassNot fits small name)
+pub own_class : (fits small : Bool) (name : Name) → Reads (judge_own_class fits small name) (OwnClass fits small name) (OwnClassNot fits small name)
 unfolding judge_own_class
 own_class fits small name = part (met _ _) λ u. part (yours name) λ w. met _ _
 
@@ -90,14 +90,14 @@ module _ (c : ℕ) (name : Name) where
   item_body d (t.function_item (t.constructor_definition p owner word params body)) = gives _
   item_body d (t.function_item (t.constructor p word params body)) = gives _
 
-  bodies_read : (d : Declarations) (xs : List t.Item) → Reads (judge_bodies d c name xs) (BodiesAre d c name xs) (SomeBodyIsNot d c name xs)
+  pub bodies_read : (d : Declarations) (xs : List t.Item) → Reads (judge_bodies d c name xs) (BodiesAre d c name xs) (SomeBodyIsNot d c name xs)
   unfolding judge_bodies
   bodies_read d [] = gives _
   bodies_read d (x ∷ xs) = part (item_body d x) λ next. bodies_read next xs
 
 -- ---- classes
 
-definition_reads : (d : Declarations) (c : ℕ) (name : Name) (a : Access) (bases : List BaseName) (items : List t.Item) (text : List ℕ) → Reads (judge_definition d c name a bases items text) (DefinitionTypes d c name a bases items text) (DefinitionFaults d c name a bases items text)
+pub definition_reads : (d : Declarations) (c : ℕ) (name : Name) (a : Access) (bases : List BaseName) (items : List t.Item) (text : List ℕ) → Reads (judge_definition d c name a bases items text) (DefinitionTypes d c name a bases items text) (DefinitionFaults d c name a bases items text)
 unfolding judge_definition
 definition_reads d c name a bases items text = part (bases_read d.classes a [] bases) λ bs. part (items_read d.classes name.text a [] items) λ ms. part (own_class _ _ name) λ u. bodies_read c name (completed d c name bs ms text) items
 

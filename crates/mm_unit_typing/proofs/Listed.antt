@@ -1,16 +1,16 @@
 -- The classes of what is typed make a class list.
-use Rattle.std.proofs.Common.{◌≡◌, ℕ, ◌<◌, ◌≤◌, ◌^◌, Bool, true, false, not, ◌&&◌, List, [], ◌∷◌, ◌++◌, length, map, refl, sym, subst, ap, ◌∙◌, inl, inr, arith, length-append}
+use Rattle.std.proofs.Common.{◌≡◌, ◌≢◌, ℕ, ◌<◌, ◌≤◌, ◌^◌, Bool, true, false, not, ◌&&◌, List, [], ◌∷◌, ◌++◌, length, map, refl, sym, subst, ap, ◌∙◌, inl, inr, arith, length-append}
 use Rattle.std.specs.Prelude.{Option, Some, None, is_some, nat_lt, cond, if◌then◌else◌}
 use Rattle.std.specs.Str.{bytes_eq}
 use Rattle.std.proofs.lemmas.Bool.Decides.{nat_tests}
 use Rattle.std.proofs.lemmas.List.{map-append}
-use Rattle.std.proofs.lemmas.List.Sums.{prefix_len-le-length, fails_before_first}
+use Rattle.std.proofs.lemmas.List.Sums.{position_or_len_is, prefix_len-le-length, fails_before_first}
 use Rattle.std.proofs.lemmas.Slice.Eq.{bytes_eq-Decides}
 use Rattle.mm_classes.specs.declared.class.Access.{Access}
 use Rattle.mm_classes.specs.declared.class.Base.{Base}
 use Rattle.mm_classes.specs.declared.class.Member.{Member}
-use Rattle.mm_classes.specs.Adding.{declared, fresh, AreKnown, CanAdd}
-use Rattle.mm_classes.specs.Classes.{Class, class_at, names_in, unknown, IsClassList}
+use Rattle.mm_classes.specs.Adding.{IsNamed, declared, fresh, AreKnown, CanAdd}
+use Rattle.mm_classes.specs.Classes.{Class, name_of, class_at, names_in, unknown, IsClassList}
 use Rattle.mm_classes.specs.Lists.{Has, first, later, Distinct, has}
 use Rattle.mm_classes.proofs.Answering.{place_from_Has}
 use Rattle.mm_classes.proofs.Declaring.{declared-valid}
@@ -34,7 +34,7 @@ use Rattle.mm_unit_typing.proofs.Fitting.{AreFit, items_fit}
 
 -- ---- bases
 
-abbrev AreBases : List Class → List Base → Type 0
+abbrev pub AreBases : List Class → List Base → Type 0
 AreBases g bs = AreKnown g bs × Distinct (map (λ (b : Base). b.class) bs)
 
 only_complete : (g : List Class) (o : Option ℕ) (c : ℕ) → complete_only g o ≡ Some c → (class_at g c).complete ≡ true
@@ -60,7 +60,7 @@ one_more g bs b h k new = (
       ])),
 )
 
-bases_fit : (g : List Class) (a : Access) (bs : List Base) (xs : List BaseName) (v : List Base) → AreBases g bs → BasesAre g a bs xs v → AreBases g v
+pub bases_fit : (g : List Class) (a : Access) (bs : List Base) (xs : List BaseName) (v : List Base) → AreBases g bs → BasesAre g a bs xs v → AreBases g v
 bases_fit g a bs [] v h e = subst (AreBases g) e h
 bases_fit g a bs (x ∷ xs) v h e =
     let b = e.1 in
@@ -86,7 +86,7 @@ unnamed g name l h =
     cc
 
 -- the list with the class, in which its number is one
-declared_fits : (g : List Class) (name : List ℕ) → IsClassList g → IsClassList (declared (class_number g name) g name) × (class_number g name < length (declared (class_number g name) g name))
+pub declared_fits : (g : List Class) (name : List ℕ) → IsClassList g → IsClassList (declared (class_number g name) g name) × (class_number g name < length (declared (class_number g name) g name))
 declared_fits g name ok = elim (nat_lt (class_number g name) (length g)) as (λ b. nat_lt (class_number g name) (length g) ≡ b
     → IsClassList (cond b g (g ++ fresh name ∷ [])) × (class_number g name < length (cond b g (g ++ fresh name ∷ [])))) [
       | true ↦ λ e. (ok, low e)
@@ -97,6 +97,18 @@ declared_fits g name ok = elim (nat_lt (class_number g name) (length g)) as (λ 
 
       high : nat_lt (class_number g name) (length g) ≡ false → length g ≤ class_number g name
       high e = grind (arith, nat_tests)
+
+other_name : (name x : List ℕ) → x ≢ name → bytes_eq name x ≡ false
+other_name name x ne = elim (bytes_eq name x) as (λ b. bytes_eq name x ≡ b → b ≡ false) [
+  | true ↦ λ t. absurd (ne (sym ((bytes_eq-Decides name x).0 t)))
+  | false ↦ λ f. refl
+] refl
+
+-- it is the number that the name has
+pub number_is : (g : List Class) (name : List ℕ) (n : ℕ) → IsNamed n g name → class_number g name ≡ n
+number_is g name n h = position_or_len_is (λ (c : Class). bytes_eq name c.name) g n unknown h.0
+    (λ k l. other_name name (name_of g k) (h.1 k l))
+    (λ l. (bytes_eq-Decides name (name_of g n)).1 (sym (h.2 l)))
 
 -- ---- a class that is completed
 
@@ -116,7 +128,7 @@ module _ (d : Declarations) (c : ℕ) (name : Name) (bs : List Base) (ms : List 
   few_members : is_small d.classes c bs ms ≡ true → length ms < 2 ^ 32
   few_members e = grind (arith, nat_tests)
 
-  can_add : c < length d.classes → AreBases d.classes bs → AreFit (length d.classes) ms → is_new_class d c name ≡ true → is_small d.classes c bs ms ≡ true → CanAdd d.classes c bs ms
+  pub can_add : c < length d.classes → AreBases d.classes bs → AreFit (length d.classes) ms → is_new_class d c name ≡ true → is_small d.classes c bs ms ≡ true → CanAdd d.classes c bs ms
   can_add l b m new small = record {
     here = l;
     incomplete = opened (is_complete d.classes c) (left_of (not (is_complete d.classes c)) (is_no_function d.functions name) new);
