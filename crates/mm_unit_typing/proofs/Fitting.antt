@@ -1,5 +1,5 @@
 -- The types that a declaration names are of declared classes, and the members of a class are apart.
-use Rattle.std.proofs.Common.{◌≡◌, ℕ, ◌+◌, ◌<◌, Bool, true, false, not, ◌&&◌, ◌||◌, List, [], ◌∷◌, ◌++◌, length, get_or, map, refl, sym, subst, ap, ◌∙◌, inl, inr}
+use Rattle.std.proofs.Common.{◌≡◌, ◌≢◌, ℕ, ◌+◌, ◌<◌, Bool, true, false, not, ◌&&◌, ◌||◌, List, [], ◌∷◌, ◌++◌, length, get_or, map, refl, sym, subst, ap, ◌∙◌, inl, inr}
 use Rattle.std.specs.Prelude.{Option, Some, None, AllPairs, is_some, if◌then◌else◌}
 use Rattle.std.specs.List.{list_any}
 use Rattle.std.specs.Str.{bytes_eq}
@@ -69,8 +69,24 @@ unless_is wrong (Some u) t e = elim (wrong u) as (λ b. (if b then None else Som
   | false ↦ λ h. h
 ] e
 
+unless_not : (wrong : Ty → Bool) (o : Option Ty) (t : Ty) → unless wrong o ≡ Some t → wrong t ≡ false
+unless_not wrong None t e = absurd (let z : None ≡ Some t = e in cc)
+unless_not wrong (Some u) t e = elim (wrong u) as (λ b. wrong u ≡ b → (if b then None else Some u) ≡ Some t → wrong t ≡ false) [
+  | true ↦ λ k h. absurd (let z : None ≡ Some t = h in cc)
+  | false ↦ λ k h. let same : u ≡ t = cc in subst (λ z. wrong z ≡ false) same k
+] refl e
+
+not_void : (t : Ty) → is_void t ≡ false → t ≢ ty.Void
+not_void t e h = let z : true ≡ false = subst (λ z. is_void z ≡ false) h e in cc
+
 value_below : (n : ℕ) (mark : Option DeclaratorMark) (s : Specified) (t : Ty) → Below n s → value_type mark s ≡ Some t → IsTyped n t
 value_below n mark s t b e = with_below n mark s t b (unless_is is_void (type_with mark s) t e)
+
+kept_solid : (mark : Option DeclaratorMark) (s : Specified) (t : Ty) → kept_type mark s ≡ Some t → (t ≢ ty.Void) × (is_reference t ≡ false)
+kept_solid mark s t e = (
+  not_void t (unless_not is_void (type_with mark s) t (unless_is is_reference (value_type mark s) t e)),
+  unless_not is_reference (value_type mark s) t e,
+)
 
 kept_below : (n : ℕ) (mark : Option DeclaratorMark) (s : Specified) (t : Ty) → Below n s → kept_type mark s ≡ Some t → IsTyped n t
 kept_below n mark s t b e = value_below n mark s t b (unless_is is_reference (value_type mark s) t e)
@@ -88,20 +104,45 @@ module _ (g : List Class) where
         | later r ↦ params_typed (n + 1) (vs ++ parameter g n q) qs h.2.0 h.2.1 t r
       ]
 
+  -- none is void
+  params_solid : (n : ℕ) (vs : List Var) (qs : List Param) (ts : List Ty) → ParamsAre g n vs qs ts → (t : Ty) → Has ts t → t ≢ ty.Void
+  params_solid n vs [] ts h t m = elim (subst (λ z. Has z t) (sym h) m) [ ]
+  params_solid n vs (q ∷ qs) ts h t m =
+      let p = h.1 in
+      let one : h.0 ≢ ty.Void = subst (λ z. z ≢ ty.Void) p.2.2.2.2.2 (not_void p.2.2.2.0 (unless_not is_void (type_with q.mark p.2.0) p.2.2.2.0 p.2.2.2.1)) in
+      elim (subst (λ z. Has z t) (sym h.2.2) m) [
+        | first e ↦ subst (λ z. z ≢ ty.Void) e one
+        | later r ↦ params_solid (n + 1) (vs ++ parameter g n q) qs h.2.0 h.2.1 t r
+      ]
+
 -- ---- members
 
--- members of one name are overloads, and the classes in their types have numbers below n
+-- no field is void or a reference, and no parameter is void
+abbrev pub IsSolid : MemberKind → Type 0
+IsSolid (kind.Field t) = (t ≢ ty.Void) × (is_reference t ≡ false)
+IsSolid (kind.Function params result v) = (t : Ty) → Has params t → t ≢ ty.Void
+
+abbrev pub AreSolid : List Member → Type 0
+AreSolid ms = (m : Member) → Has ms m → IsSolid m.kind
+
+-- members of one name are overloads, the classes in their types have numbers below n, and the types are such as members have
 abbrev pub AreFit : ℕ → List Member → Type 0
-AreFit n ms = AllPairs AreApart ms × AreTyped n ms
+AreFit n ms = AllPairs AreApart ms × (AreTyped n ms × AreSolid ms)
 
 pushed : (n : ℕ) (ms : List Member) (m : Member) → AreFit n ms → ((k : ℕ) (d : Member) → k < length ms → AreApart (get_or ms k d) m)
-    → ((t : Ty) → Has (types_in m.kind) t → IsTyped n t) → AreFit n (ms ++ m ∷ [])
-pushed n ms m h apart typed = (
+    → ((t : Ty) → Has (types_in m.kind) t → IsTyped n t) → IsSolid m.kind → AreFit n (ms ++ m ∷ [])
+pushed n ms m h apart typed solid = (
   all_pairs_push AreApart ms m h.0 apart,
-  λ x t a b. elim (Has-append ms (m ∷ []) a) [
-    | inl a ↦ h.1 x t a b
-    | inr r ↦ elim r [ first e ↦ typed t (subst (λ (z : Member). Has (types_in z.kind) t) (sym e) b) | later w ↦ elim w [ ] ]
-  ],
+  (
+    λ x t a b. elim (Has-append ms (m ∷ []) a) [
+      | inl a ↦ h.1.0 x t a b
+      | inr r ↦ elim r [ first e ↦ typed t (subst (λ (z : Member). Has (types_in z.kind) t) (sym e) b) | later w ↦ elim w [ ] ]
+    ],
+    λ x a. elim (Has-append ms (m ∷ []) a) [
+      | inl a ↦ h.1.1 x a
+      | inr r ↦ elim r [ first e ↦ subst (λ (z : Member). IsSolid z.kind) e solid | later w ↦ elim w [ ] ]
+    ],
+  ),
 )
 
 -- a test that no element passes
@@ -142,7 +183,8 @@ module _ (g : List Class) where
       (λ t i. elim (subst (λ z. Has (types_in z) t) (sym kinded) i) [
         | first q ↦ subst (IsTyped (length g)) q (kept_below (length g) x.mark s f.2.0 b f.2.1)
         | later w ↦ elim w [ ]
-      ]))
+      ])
+      (subst IsSolid kinded (kept_solid x.mark s f.2.0 f.2.1)))
       e.2
 
   -- the types of a head
@@ -154,6 +196,12 @@ module _ (g : List Class) where
         | first q ↦ subst (IsTyped (length g)) q (with_below (length g) x.mark e.0 own.2.0 (below g x.type_name.kind e.0 e.1) own.2.1)
         | later r ↦ params_typed g 1 [] x.params.list e.2.0 e.2.1 t r
       ]
+
+  head_solid : (ms : List Member) (x : Head) (h : Heading) → MethodHead g ms x h → (t : Ty) → Has h.params t → t ≢ ty.Void
+  head_solid ms x h e t m =
+      let own = e.2.2 in
+      let same : heading own.2.0 e.2.0 ≡ h = own.2.2.2.2 in
+      params_solid g 1 [] x.params.list e.2.0 e.2.1 t (subst (λ (z : Heading). Has z.params t) (sym same) m)
 
   -- the parameters of a head are new among the functions of its name
   head_new : (ms : List Member) (x : Head) (h : Heading) → MethodHead g ms x h → is_new_method ms x.name.text h.params ≡ true
@@ -170,6 +218,7 @@ module _ (g : List Class) where
       let kinded : m.kind ≡ kind.Function made.0.params made.0.result false = ap (λ (z : Member). z.kind) (sym same) in
       pushed (length g) ms m h (method_apart ms x.name.text made.0.params made.0.result false m named kinded (head_new ms x made.0 made.1))
       (λ t i. head_typed ms x made.0 made.1 t (subst (λ z. Has (types_in z) t) kinded i))
+      (subst IsSolid (sym kinded) (λ t i. head_solid ms x made.0 made.1 t i))
   function_fits class a ms (t.destructor p virtual_at word has_void) m h e =
       let same : destructor_member a class word (is_some virtual_at) ≡ m = e.2.2 in
       let named : m.name ≡ destructor_name class = ap (λ (z : Member). z.name) (sym same) in
@@ -179,6 +228,7 @@ module _ (g : List Class) where
         | first q ↦ subst (IsTyped (length g)) q tt
         | later w ↦ elim w [ ]
       ])
+      (subst IsSolid (sym kinded) (λ t i. elim i [ ]))
   function_fits class a ms (t.declaration p x) m h e = absurd e
   function_fits class a ms (t.definition p x body) m h e = absurd e
   function_fits class a ms (t.member_definition p owner x body) m h e = absurd e

@@ -135,7 +135,7 @@ module _ (d : Declarations) (c : ℕ) (name : Name) (bs : List Base) (ms : List 
     known = b.0;
     once = b.1;
     members = record { few = few_members small; apart = m.0 };
-    typed = m.1;
+    typed = m.1.0;
   }
 
 -- ---- bodies leave the classes as they are
@@ -166,7 +166,7 @@ definition_fits : (d : Declarations) (c : ℕ) (name : Name) (a : Access) (bases
 definition_fits d c name a bases items text v ok l e =
     let bs = bases_fit d.classes a [] bases e.0 ((λ b h. elim h [ ]), tt) e.1 in
     let rest = e.2 in
-    let ms = items_fit d.classes name.text a [] items rest.0 ((λ i j x k q. absurd (omega arith)), (λ m t h k. elim h [ ])) rest.1 in
+    let ms = items_fit d.classes name.text a [] items rest.0 ((λ i j x k q. absurd (omega arith)), ((λ m t h k. elim h [ ]), (λ m h. elim h [ ]))) rest.1 in
     let own = rest.2.1 in
     let small = right_of (few_classes d.classes) (is_small d.classes c e.0 rest.0) own.2.2 in
     subst IsClassList (sym (bodies_keep (completed d c name e.0 rest.0 text) c name items v rest.2.2))
