@@ -3,6 +3,7 @@ pub mod Heads
 pub mod Classes
 pub mod Fitting
 pub mod Listed
+pub mod Limits
 pub mod Units
 pub mod Verdict
 mod Words

@@ -73,7 +73,7 @@ bases_fit g a bs (x ∷ xs) v h e =
 
 -- ---- a class that is declared
 
-number_low : (g : List Class) (name : List ℕ) → class_number g name ≤ length g
+pub number_low : (g : List Class) (name : List ℕ) → class_number g name ≤ length g
 number_low g name = prefix_len-le-length (λ (c : Class). not (bytes_eq name c.name)) g
 
 unnamed : (g : List Class) (name : List ℕ) → length g ≤ class_number g name → Has (names_in g) name → ⊥
@@ -112,11 +112,11 @@ number_is g name n h = position_or_len_is (λ (c : Class). bytes_eq name c.name)
 
 -- ---- a class that is completed
 
-left_of : (a b : Bool) → (a && b) ≡ true → a ≡ true
+pub left_of : (a b : Bool) → (a && b) ≡ true → a ≡ true
 left_of true b e = refl
 left_of false b e = absurd (let z : false ≡ true = e in cc)
 
-right_of : (a b : Bool) → (a && b) ≡ true → b ≡ true
+pub right_of : (a b : Bool) → (a && b) ≡ true → b ≡ true
 right_of true b e = e
 right_of false b e = absurd (let z : false ≡ true = e in cc)
 
@@ -155,13 +155,13 @@ item_keeps d c name (t.function_item (t.member_definition p owner x body)) v e =
 item_keeps d c name (t.function_item (t.constructor_definition p owner word params body)) v e = ap (λ (z : Declarations). z.classes) (sym e)
 item_keeps d c name (t.function_item (t.constructor p word params body)) v e = ap (λ (z : Declarations). z.classes) (sym e)
 
-bodies_keep : (d : Declarations) (c : ℕ) (name : Name) (xs : List t.Item) (v : Declarations) → BodiesAre d c name xs v → v.classes ≡ d.classes
+pub bodies_keep : (d : Declarations) (c : ℕ) (name : Name) (xs : List t.Item) (v : Declarations) → BodiesAre d c name xs v → v.classes ≡ d.classes
 bodies_keep d c name [] v e = ap (λ (z : Declarations). z.classes) (sym e)
 bodies_keep d c name (x ∷ xs) v e = bodies_keep e.0 c name xs v e.2 ∙ item_keeps d c name x e.0 e.1
 
 -- ---- declarations
 
-definition_fits : (d : Declarations) (c : ℕ) (name : Name) (a : Access) (bases : List BaseName) (items : List t.Item) (text : List ℕ) (v : Declarations)
+pub definition_fits : (d : Declarations) (c : ℕ) (name : Name) (a : Access) (bases : List BaseName) (items : List t.Item) (text : List ℕ) (v : Declarations)
     → IsClassList d.classes → c < length d.classes → DefinitionTypes d c name a bases items text v → IsClassList v.classes
 definition_fits d c name a bases items text v ok l e =
     let bs = bases_fit d.classes a [] bases e.0 ((λ b h. elim h [ ]), tt) e.1 in
@@ -178,7 +178,7 @@ class_fits d (t.class_definition p key name bases items text) v ok e =
     let h = declared_fits d.classes name.text ok in
     definition_fits (with_class d name) (class_number d.classes name.text) name (default_access key) bases items text v h.0 h.1 e
 
-with_function_keeps : (d : Declarations) (name : Name) (h : Heading) → (with_function d name h).classes ≡ d.classes
+pub with_function_keeps : (d : Declarations) (name : Name) (h : Heading) → (with_function d name h).classes ≡ d.classes
 with_function_keeps d name h = elim (is_some (known d.functions name.text h.params)) as (λ b.
     (if b then d else record d { functions = d.functions ++ declared_function false name.text name.place h.result h.params ∷ [] }).classes ≡ d.classes) [
       | true ↦ refl
