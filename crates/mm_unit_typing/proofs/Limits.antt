@@ -2,6 +2,7 @@
 use Rattle.std.proofs.Common.{◌≡◌, ◌≢◌, ℕ, zero, suc, ◌<◌, ◌≤◌, ◌^◌, Bool, true, false, ◌&&◌, List, [], ◌∷◌, ◌++◌, length, refl, sym, subst, ap, ◌∙◌, inl, inr, arith, length-append, length-set}
 use Rattle.std.specs.Prelude.{Option, Some, None, is_some, nat_lt, cond, if◌then◌else◌}
 use Rattle.std.proofs.lemmas.Bool.Decides.{nat_tests, eqb_tells}
+use Rattle.std.proofs.lemmas.List.{get_or_past}
 use Rattle.mm_classes.specs.declared.class.Access.{Access}
 use Rattle.mm_classes.specs.declared.class.Base.{Base}
 use Rattle.mm_classes.specs.declared.class.Member.{Member}
@@ -10,11 +11,12 @@ use Rattle.mm_classes.specs.declared.class.MemberKind.TheVariants as kind
 use Rattle.mm_classes.specs.declared.class.Ty.{Ty}
 use Rattle.mm_classes.specs.declared.class.Ty.TheVariants as ty
 use Rattle.mm_classes.specs.Adding.{added, declared, fresh, new_class, CanAdd}
-use Rattle.mm_classes.specs.Classes.{Class, class_at, members_of, field_count, types_in, IsClassList, IsTyped}
+use Rattle.mm_classes.specs.Classes.{Class, class_at, members_of, field_count, types_in, unknown, IsClassList, IsTyped}
 use Rattle.mm_classes.specs.Lists.{Has, first, later}
 use Rattle.mm_classes.specs.Subobjects.{subobjects_of}
 use Rattle.mm_classes.proofs.Declaring.{same_complete, declared-same, declared-longer}
-use Rattle.mm_classes.proofs.Growing.{subobjects-kept, at_new, at_other, as_before, as_long}
+use Rattle.mm_classes.proofs.Growing.{subobjects-kept, added-valid, at_new, at_other, as_before, as_long}
+use Rattle.mm_class_table.proofs.Entries.{none_valid}
 use Rattle.mm_core.specs.declared.tree.CoreClass.{CoreClass}
 use Rattle.mm_core.specs.Heads.{class_in}
 use Rattle.mm_core.specs.Units.{Checked}
@@ -29,7 +31,7 @@ use Rattle.mm_unit_typing.specs.Classes.{class_number, mention, with_class, few_
 use Rattle.mm_unit_typing.specs.Units.{FunctionTypes, DeclTypes, DeclsType}
 use Rattle.mm_unit_typing.specs.Laws.{IsWithin, AreWithin, ClassesAreWithin}
 use Rattle.mm_unit_typing.proofs.Fitting.{AreSolid, IsSolid, items_fit}
-use Rattle.mm_unit_typing.proofs.Listed.{bases_fit, declared_fits, can_add, left_of, right_of, definition_fits}
+use Rattle.mm_unit_typing.proofs.Listed.{bases_fit, declared_fits, can_add, left_of, right_of, outer, bodies_keep, function_keeps}
 
 -- ---- what is kept
 
@@ -117,3 +119,86 @@ keeps_same d v e m k = record {
   marked = ap length m ∙ (k.marked ∙ ap length (sym e));
   each = subst AreKept (sym e) k.each;
 }
+
+-- bodies leave the classes as they are
+keeps_outer : (d v : Declarations) → outer v ≡ outer d → Keeps d → Keeps v
+keeps_outer d v e k = keeps_same d v (ap (λ p. p.0) e) (ap (λ p. p.1) e) k
+
+keeps_declared : (d : Declarations) (name : Name) → Keeps d → few_classes (with_class d name).classes ≡ true → Keeps (with_class d name)
+keeps_declared d name k few = record {
+  listed = (declared_fits d.classes name.text k.listed).0;
+  few = few_are (with_class d name).classes few;
+  marked = mentioned d name k.marked;
+  each = kept_declared d.classes (class_number d.classes name.text) name.text k.listed k.each;
+}
+
+keeps_defined : (d : Declarations) (c : ℕ) (name : Name) (a : Access) (bases : List BaseName) (items : List t.Item) (text : List ℕ) (v : Declarations)
+    → IsClassList d.classes → AreKept d.classes → length d.marks ≡ length d.classes → c < length d.classes → DefinitionTypes d c name a bases items text v → Keeps v
+keeps_defined d c name a bases items text v ok each marked l e =
+    let bs = bases_fit d.classes a [] bases e.0 ((λ b h. elim h [ ]), tt) e.1 in
+    let rest = e.2 in
+    let ms = items_fit d.classes name.text a [] items rest.0 ((λ i j x k q. absurd (omega arith)), ((λ m t h k. elim h [ ]), (λ m h. elim h [ ]))) rest.1 in
+    let own = rest.2.1 in
+    let few = left_of (few_classes d.classes) (is_small d.classes c e.0 rest.0) own.2.2 in
+    let small = right_of (few_classes d.classes) (is_small d.classes c e.0 rest.0) own.2.2 in
+    let new = can_add d c name e.0 rest.0 l bs ms own.1 small in
+    let long : length (added d.classes c e.0 rest.0) ≡ length d.classes = length-set d.classes c (new_class d.classes c e.0 rest.0) in
+    keeps_outer (completed d c name e.0 rest.0 text) v (bodies_keep (completed d c name e.0 rest.0 text) c name items v rest.2.2) (record {
+      listed = added-valid d.classes ok c e.0 rest.0 new;
+      few = let f = few_are d.classes few in omega arith;
+      marked = with_tokens_length d.marks c text ∙ (marked ∙ sym long);
+      each = kept_added d.classes ok c e.0 rest.0 new ms.1.1 small each;
+    })
+
+keeps_class : (d : Declarations) (x : t.Class) (v : Declarations) → Keeps d → ClassTypes d x v → Keeps v
+keeps_class d (t.class_declaration p key name) v k e = subst Keeps e.2 (keeps_declared d name k e.1.2.2)
+keeps_class d (t.class_definition p key name bases items text) v k e =
+    let h = declared_fits d.classes name.text k.listed in
+    keeps_defined (with_class d name) (class_number d.classes name.text) name (default_access key) bases items text v h.0
+    (kept_declared d.classes (class_number d.classes name.text) name.text k.listed k.each) (mentioned d name k.marked) h.1 e
+
+keeps_decl : (d : Declarations) (x : t.Decl) (v : Declarations) → Keeps d → DeclTypes d x v → Keeps v
+keeps_decl d (t.function_decl p x) v k e = keeps_outer d v (function_keeps d x v e) k
+keeps_decl d (t.class_decl p x) v k e = keeps_class d x v k e
+
+keeps_decls : (d : Declarations) (xs : List t.Decl) (v : Declarations) → Keeps d → DeclsType d xs v → Keeps v
+keeps_decls d [] v k e = subst Keeps e k
+keeps_decls d (x ∷ xs) v k e = keeps_decls e.0 xs v (keeps_decl d x e.0 k e.1) e.2
+
+unknown_is_open : (c : ℕ) → (class_at [] c).complete ≡ true → ⊥
+unknown_is_open c k = let z : false ≡ true = ap (λ (x : Class). x.complete) (sym (get_or_past [] c unknown (omega arith))) ∙ k in cc
+
+nothing_keeps : Keeps nothing
+nothing_keeps = record {
+  listed = none_valid;
+  few = omega arith;
+  marked = refl;
+  each = λ c k. absurd (unknown_is_open c k);
+}
+
+-- ---- units
+
+is_type : (g : List Class) (t : Ty) → IsTyped (length g) t → IsType g t
+is_type g ty.Void h = tt
+is_type g ty.Bool h = tt
+is_type g ty.Int h = tt
+is_type g ty.Unsigned h = tt
+is_type g (ty.Ptr c) h = h
+is_type g (ty.Ref c) h = h
+
+types_are : (g : List Class) (x : MemberKind) → ((t : Ty) → Has (types_in x) t → IsTyped (length g) t) → IsSolid x → TypesAre g x
+types_are g (kind.Field t) h s = ((is_type g t (h t (first refl)), s.0), s.1)
+types_are g (kind.Function ps r v) h s = (is_type g r (h r (first refl)), λ t m. (is_type g t (h t (later m)), s t m))
+
+pub classes_within : ClassesAreWithin
+classes_within u v e =
+    let k = keeps_decls nothing u.decls e.0 nothing_keeps e.1 in
+    subst AreWithin e.2 (record {
+      few = k.few;
+      marked = k.marked;
+      each = λ c h. let w = k.each c h.1 in record {
+        types = λ m i. types_are (e.0).classes m.kind (λ t j. k.listed.typed c m t i j) (w.solid m i);
+        subobjects = w.subobjects;
+        fields = w.fields;
+      };
+    })

@@ -18,6 +18,7 @@ use Rattle.mm_classes.proofs.Growing.{added-valid}
 use Rattle.mm_classes.proofs.Lists.{Has-append, Has-map_from, Distinct-append, has-Has}
 use Rattle.mm_class_table.specs.Numbers.{number_of}
 use Rattle.mm_class_table.proofs.Entries.{none_valid}
+use Rattle.mm_core.specs.declared.tree.CoreClass.{CoreClass}
 use Rattle.mm_core.specs.Units.{Checked}
 use Rattle.mm_syntax.specs.declared.name.Name.{Name}
 use Rattle.mm_syntax.specs.declared.decl.Base.{Base as BaseName}
@@ -140,23 +141,27 @@ module _ (d : Declarations) (c : ℕ) (name : Name) (bs : List Base) (ms : List 
 
 -- ---- bodies leave the classes as they are
 
-method_keeps : (d : Declarations) (c : ℕ) (name : Name) (x : Head) (body : Option t.Stmt) (v : Declarations) → MethodBody d c name x body v → v.classes ≡ d.classes
-method_keeps d c name x None v e = ap (λ (z : Declarations). z.classes) (sym e)
-method_keeps d c name x (Some body) v e = ap (λ (z : Declarations). z.classes) (sym e.2)
+-- all but the functions
+abbrev pub outer : Declarations → List Class × List CoreClass
+outer d = (d.classes, d.marks)
 
-item_keeps : (d : Declarations) (c : ℕ) (name : Name) (x : t.Item) (v : Declarations) → ItemBody d c name x v → v.classes ≡ d.classes
+method_keeps : (d : Declarations) (c : ℕ) (name : Name) (x : Head) (body : Option t.Stmt) (v : Declarations) → MethodBody d c name x body v → outer v ≡ outer d
+method_keeps d c name x None v e = ap outer (sym e)
+method_keeps d c name x (Some body) v e = ap outer (sym e.2)
+
+item_keeps : (d : Declarations) (c : ℕ) (name : Name) (x : t.Item) (v : Declarations) → ItemBody d c name x v → outer v ≡ outer d
 item_keeps d c name (t.function_item (t.method p virtual_at x body)) v e = method_keeps d c name x body v e
-item_keeps d c name (t.access w) v e = ap (λ (z : Declarations). z.classes) (sym e)
-item_keeps d c name (t.fields x names) v e = ap (λ (z : Declarations). z.classes) (sym e)
-item_keeps d c name (t.function_item (t.destructor p virtual_at word has_void)) v e = ap (λ (z : Declarations). z.classes) (sym e)
-item_keeps d c name (t.function_item (t.declaration p x)) v e = ap (λ (z : Declarations). z.classes) (sym e)
-item_keeps d c name (t.function_item (t.definition p x body)) v e = ap (λ (z : Declarations). z.classes) (sym e)
-item_keeps d c name (t.function_item (t.member_definition p owner x body)) v e = ap (λ (z : Declarations). z.classes) (sym e)
-item_keeps d c name (t.function_item (t.constructor_definition p owner word params body)) v e = ap (λ (z : Declarations). z.classes) (sym e)
-item_keeps d c name (t.function_item (t.constructor p word params body)) v e = ap (λ (z : Declarations). z.classes) (sym e)
+item_keeps d c name (t.access w) v e = ap outer (sym e)
+item_keeps d c name (t.fields x names) v e = ap outer (sym e)
+item_keeps d c name (t.function_item (t.destructor p virtual_at word has_void)) v e = ap outer (sym e)
+item_keeps d c name (t.function_item (t.declaration p x)) v e = ap outer (sym e)
+item_keeps d c name (t.function_item (t.definition p x body)) v e = ap outer (sym e)
+item_keeps d c name (t.function_item (t.member_definition p owner x body)) v e = ap outer (sym e)
+item_keeps d c name (t.function_item (t.constructor_definition p owner word params body)) v e = ap outer (sym e)
+item_keeps d c name (t.function_item (t.constructor p word params body)) v e = ap outer (sym e)
 
-pub bodies_keep : (d : Declarations) (c : ℕ) (name : Name) (xs : List t.Item) (v : Declarations) → BodiesAre d c name xs v → v.classes ≡ d.classes
-bodies_keep d c name [] v e = ap (λ (z : Declarations). z.classes) (sym e)
+pub bodies_keep : (d : Declarations) (c : ℕ) (name : Name) (xs : List t.Item) (v : Declarations) → BodiesAre d c name xs v → outer v ≡ outer d
+bodies_keep d c name [] v e = ap outer (sym e)
 bodies_keep d c name (x ∷ xs) v e = bodies_keep e.0 c name xs v e.2 ∙ item_keeps d c name x e.0 e.1
 
 -- ---- declarations
@@ -169,33 +174,33 @@ definition_fits d c name a bases items text v ok l e =
     let ms = items_fit d.classes name.text a [] items rest.0 ((λ i j x k q. absurd (omega arith)), ((λ m t h k. elim h [ ]), (λ m h. elim h [ ]))) rest.1 in
     let own = rest.2.1 in
     let small = right_of (few_classes d.classes) (is_small d.classes c e.0 rest.0) own.2.2 in
-    subst IsClassList (sym (bodies_keep (completed d c name e.0 rest.0 text) c name items v rest.2.2))
+    subst IsClassList (sym (ap (λ p. p.0) (bodies_keep (completed d c name e.0 rest.0 text) c name items v rest.2.2)))
     (added-valid d.classes ok c e.0 rest.0 (can_add d c name e.0 rest.0 l bs ms own.1 small))
 
-class_fits : (d : Declarations) (x : t.Class) (v : Declarations) → IsClassList d.classes → ClassTypes d x v → IsClassList v.classes
+pub class_fits : (d : Declarations) (x : t.Class) (v : Declarations) → IsClassList d.classes → ClassTypes d x v → IsClassList v.classes
 class_fits d (t.class_declaration p key name) v ok e = subst (λ (z : Declarations). IsClassList z.classes) e.2 (declared_fits d.classes name.text ok).0
 class_fits d (t.class_definition p key name bases items text) v ok e =
     let h = declared_fits d.classes name.text ok in
     definition_fits (with_class d name) (class_number d.classes name.text) name (default_access key) bases items text v h.0 h.1 e
 
-pub with_function_keeps : (d : Declarations) (name : Name) (h : Heading) → (with_function d name h).classes ≡ d.classes
+pub with_function_keeps : (d : Declarations) (name : Name) (h : Heading) → outer (with_function d name h) ≡ outer d
 with_function_keeps d name h = elim (is_some (known d.functions name.text h.params)) as (λ b.
-    (if b then d else record d { functions = d.functions ++ declared_function false name.text name.place h.result h.params ∷ [] }).classes ≡ d.classes) [
+    outer (if b then d else record d { functions = d.functions ++ declared_function false name.text name.place h.result h.params ∷ [] }) ≡ outer d) [
       | true ↦ refl
       | false ↦ refl
     ]
 
-function_keeps : (d : Declarations) (x : t.Function) (v : Declarations) → FunctionTypes d x v → v.classes ≡ d.classes
-function_keeps d (t.declaration p x) v e = ap (λ (z : Declarations). z.classes) (sym e.2) ∙ with_function_keeps d x.name e.0
-function_keeps d (t.definition p x body) v e = ap (λ (z : Declarations). z.classes) (sym e.2.2) ∙ with_function_keeps d x.name e.0
-function_keeps d (t.member_definition p class x body) v e = ap (λ (z : Declarations). z.classes) (sym e.2.2)
+pub function_keeps : (d : Declarations) (x : t.Function) (v : Declarations) → FunctionTypes d x v → outer v ≡ outer d
+function_keeps d (t.declaration p x) v e = ap outer (sym e.2) ∙ with_function_keeps d x.name e.0
+function_keeps d (t.definition p x body) v e = ap outer (sym e.2.2) ∙ with_function_keeps d x.name e.0
+function_keeps d (t.member_definition p class x body) v e = ap outer (sym e.2.2)
 function_keeps d (t.constructor_definition p class word params body) v e = absurd e
 function_keeps d (t.method p virtual_at x body) v e = absurd e
 function_keeps d (t.destructor p virtual_at word has_void) v e = absurd e
 function_keeps d (t.constructor p word params body) v e = absurd e
 
 decl_fits : (d : Declarations) (x : t.Decl) (v : Declarations) → IsClassList d.classes → DeclTypes d x v → IsClassList v.classes
-decl_fits d (t.function_decl p x) v ok e = subst IsClassList (sym (function_keeps d x v e)) ok
+decl_fits d (t.function_decl p x) v ok e = subst IsClassList (sym (ap (λ p. p.0) (function_keeps d x v e))) ok
 decl_fits d (t.class_decl p x) v ok e = class_fits d x v ok e
 
 pub decls_fit : (d : Declarations) (xs : List t.Decl) (v : Declarations) → IsClassList d.classes → DeclsType d xs v → IsClassList v.classes
