@@ -125,7 +125,8 @@ IsSolid (kind.Function params result v) = (t : Ty) → Has params t → t ≢ ty
 abbrev pub AreSolid : List Member → Type 0
 AreSolid ms = (m : Member) → Has ms m → IsSolid m.kind
 
--- members of one name are overloads, the classes in their types have numbers below n, and the types are such as members have
+-- members of one name are overloads, the classes in their types have numbers below n, and the types
+-- are such as members have
 abbrev pub AreFit : ℕ → List Member → Type 0
 AreFit n ms = AllPairs AreApart ms × (AreTyped n ms × AreSolid ms)
 

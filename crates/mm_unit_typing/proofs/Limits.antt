@@ -1,6 +1,7 @@
--- The classes of what is typed are within the limits, and their members have types that members may have.
-use Rattle.std.proofs.Common.{◌≡◌, ◌≢◌, ℕ, zero, suc, ◌<◌, ◌≤◌, ◌^◌, Bool, true, false, ◌&&◌, List, [], ◌∷◌, ◌++◌, length, refl, sym, subst, ap, ◌∙◌, inl, inr, arith, length-append, length-set}
-use Rattle.std.specs.Prelude.{Option, Some, None, is_some, nat_lt, cond, if◌then◌else◌}
+-- The classes of what is typed are within the limits, and their members have types that members may
+-- have.
+use Rattle.std.proofs.Common.{◌≡◌, ℕ, zero, suc, ◌<◌, ◌≤◌, ◌^◌, true, false, List, [], ◌∷◌, ◌++◌, length, refl, sym, subst, ap, ◌∙◌, inl, inr, arith, length-append, length-set}
+use Rattle.std.specs.Prelude.{nat_lt, cond, if◌then◌else◌}
 use Rattle.std.proofs.lemmas.Bool.Decides.{nat_tests, eqb_tells}
 use Rattle.std.proofs.lemmas.List.{get_or_past}
 use Rattle.mm_classes.specs.declared.class.Access.{Access}
@@ -18,18 +19,15 @@ use Rattle.mm_classes.proofs.Declaring.{same_complete, declared-same, declared-l
 use Rattle.mm_classes.proofs.Growing.{subobjects-kept, added-valid, at_new, at_other, as_before, as_long}
 use Rattle.mm_class_table.proofs.Entries.{none_valid}
 use Rattle.mm_core.specs.declared.tree.CoreClass.{CoreClass}
-use Rattle.mm_core.specs.Heads.{class_in}
-use Rattle.mm_core.specs.Units.{Checked}
 use Rattle.mm_core.specs.ValidProgram.{IsType, TypesAre}
 use Rattle.mm_syntax.specs.declared.name.Name.{Name}
 use Rattle.mm_syntax.specs.declared.decl.Base.{Base as BaseName}
 use Rattle.mm_syntax.specs.Tree as t
-use Rattle.mm_unit_typing.specs.Heads.{Heading}
-use Rattle.mm_unit_typing.specs.Functions.{Declarations, nothing, known, declared_function, with_function}
+use Rattle.mm_unit_typing.specs.Functions.{Declarations, nothing}
 use Rattle.mm_unit_typing.specs.Members.{default_access}
-use Rattle.mm_unit_typing.specs.Classes.{class_number, mention, with_class, few_classes, is_small, is_within_limits, with_tokens, completed, MethodBody, ItemBody, BodiesAre, DefinitionTypes, ClassTypes}
-use Rattle.mm_unit_typing.specs.Units.{FunctionTypes, DeclTypes, DeclsType}
-use Rattle.mm_unit_typing.specs.Laws.{IsWithin, AreWithin, ClassesAreWithin}
+use Rattle.mm_unit_typing.specs.Classes.{class_number, mention, with_class, few_classes, is_small, with_tokens, completed, DefinitionTypes, ClassTypes}
+use Rattle.mm_unit_typing.specs.Units.{DeclTypes, DeclsType}
+use Rattle.mm_unit_typing.specs.Laws.{AreWithin, ClassesAreWithin}
 use Rattle.mm_unit_typing.proofs.Fitting.{AreSolid, IsSolid, items_fit}
 use Rattle.mm_unit_typing.proofs.Listed.{bases_fit, declared_fits, can_add, left_of, right_of, outer, bodies_keep, function_keeps}
 
@@ -107,9 +105,9 @@ with_tokens_length (m ∷ ms) (suc n) text = ap suc (with_tokens_length ms n tex
 mentioned : (d : Declarations) (name : Name) → length d.marks ≡ length d.classes → length (with_class d name).marks ≡ length (with_class d name).classes
 mentioned d name e = elim (nat_lt (class_number d.classes name.text) (length d.classes)) as (λ b.
     length (if b then d.marks else d.marks ++ mention name ∷ []) ≡ length (cond b d.classes (d.classes ++ fresh name.text ∷ []))) [
-  | true ↦ e
-  | false ↦ (let a = length-append d.marks (mention name ∷ []) in let b = length-append d.classes (fresh name.text ∷ []) in omega arith)
-]
+      | true ↦ e
+      | false ↦ (let a = length-append d.marks (mention name ∷ []) in let b = length-append d.classes (fresh name.text ∷ []) in omega arith)
+    ]
 
 -- declarations with the same classes and marks
 keeps_same : (d v : Declarations) → v.classes ≡ d.classes → v.marks ≡ d.marks → Keeps d → Keeps v
