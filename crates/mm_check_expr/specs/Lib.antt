@@ -1,2 +1,3 @@
 pub mod Callee
 pub mod Demands
+pub mod Objects
