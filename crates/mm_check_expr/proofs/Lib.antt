@@ -1,2 +1,4 @@
+pub mod Choices
 pub mod Converting
 pub mod Given
+pub mod Parts

@@ -1,8 +1,6 @@
 //! Conversions, and the faults of operands.
 
 ghost use Rattle.std.specs.Prelude.{◌≡◌, Ok, Err, map, length, option_map};
-ghost use Rattle.mm_answers.specs.Up.{up_of};
-ghost use Rattle.mm_answers.specs.Accessing.{base_is_accessible};
 ghost use Rattle.mm_core.specs.View.{expr_view as core_view};
 ghost use Rattle.mm_syntax.specs.View.{expr_view};
 ghost use Rattle.mm_syntax.specs.First.{place_of};
@@ -14,6 +12,8 @@ ghost use Rattle.mm_check_expr.specs.Demands.{both_demanded};
 ghost use Rattle.mm_check_expr.specs.Objects.{step_view};
 
 use crate::types::{is_convertible, is_same, is_zero_kind};
+use mm_answers::may::base_may;
+use mm_answers::up::up;
 use mm_base::code::Code;
 use mm_base::place::Place;
 use mm_base::text::Text;
@@ -149,25 +149,12 @@ pub(crate) fn node_of(up: Up) -> NodeId
     }
 }
 
-/// The subobject of class `base`.
-pub(crate) fn base_in(graph: &Graph, derived: ClassId, base: ClassId) -> Up
-    ensures { result ≡ up_of graph.now derived base }
-{
-    Up::None
-}
-
-fn is_accessible(graph: &Graph, from: Context, derived: ClassId, node: NodeId) -> bool
-    ensures { result ≡ base_is_accessible graph.now from.class derived node }
-{
-    false
-}
-
 fn is_single_base(graph: &Graph, step: &Option<Step>) -> bool
     ensures { result ≡ is_single graph.now (option_map step_view step.now) }
 {
     match step {
         None => true,
-        Some(step) => is_one_up(base_in(graph, step.derived, step.base)),
+        Some(step) => is_one_up(up(graph, step.derived, step.base)),
     }
 }
 
@@ -177,8 +164,8 @@ fn is_usable_base(graph: &Graph, from: Context, step: &Option<Step>) -> bool
     match step {
         None => true,
         Some(step) => {
-            let node = node_of(base_in(graph, step.derived, step.base));
-            is_accessible(graph, from, step.derived, node)
+            let node = node_of(up(graph, step.derived, step.base));
+            base_may(graph, from, step.derived, node)
         }
     }
 }
@@ -233,7 +220,7 @@ fn at_base(
         None => Ok(core),
         Some(step) => {
             let class = step.derived;
-            let node = node_of(base_in(graph, class, step.base));
+            let node = node_of(up(graph, class, step.base));
             Ok(CoreExpr::Move(Move { class, node }, Boxed::new(alloc, core)?))
         }
     }

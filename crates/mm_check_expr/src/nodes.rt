@@ -6,7 +6,7 @@ ghost use Rattle.mm_core.specs.View.{expr_view as core_view};
 ghost use Rattle.mm_core.specs.Tree.{bool};
 ghost use Rattle.mm_syntax.specs.View.{expr_view};
 ghost use Rattle.mm_checks.specs.Checks.{Gives, at, demand, wanted};
-ghost use Rattle.mm_check_expr.specs.Demands.{demanded, two_demanded};
+ghost use Rattle.mm_check_expr.specs.Demands.{demanded, two_demanded, choice_type};
 ghost use Rattle.mm_check_expr.specs.Objects.{spot_view};
 ghost use Rattle.mm_base.specs.declared.code.TheConstants.Code.{S12};
 ghost use Rattle.mm_typing.specs.Typed as spec;
@@ -466,6 +466,29 @@ pub(crate) fn make_operation(
     }
 }
 
+// The type of both branches, and all that is asked of the operands.
+fn need_choice(
+    alloc: Global,
+    env: &Env,
+    place: Place,
+    c: &Expr,
+    a: &Expr,
+    b: &Expr,
+    d: &TypedExpr,
+    x: &TypedExpr,
+    y: &TypedExpr,
+) -> Result<Ty, CheckEnd>
+    ensures { Gives (λ t. t) result (choice_type env.now place (expr_view c.now)
+        (expr_view a.now) (expr_view b.now) (typed_view d.now) (typed_view x.now) (typed_view y.now)) }
+{
+    need_converts(alloc, env.graph(), d, &Ty::Bool, c)?;
+    let found = find_branch_type(env.graph(), x, y);
+    let to = want_type(alloc, found, Code::S12, place, "?")?;
+    need_base(alloc, env, &to, a, x)?;
+    need_base(alloc, env, &to, b, y)?;
+    Ok(to)
+}
+
 pub(crate) fn make_choose(
     alloc: Global,
     env: &Env,
@@ -477,13 +500,10 @@ pub(crate) fn make_choose(
     x: TypedExpr,
     y: TypedExpr,
 ) -> Result<TypedExpr, CheckEnd>
-    ensures { Gives typed_view result (own_choose env.now place (expr_view c.now) (expr_view a.now) (expr_view b.now) (typed_view d) (typed_view x) (typed_view y)) }
+    ensures { Gives typed_view result (own_choose env.now place (expr_view c.now) (expr_view a.now)
+        (expr_view b.now) (typed_view d) (typed_view x) (typed_view y)) }
 {
-    need_converts(alloc, env.graph(), &d, &Ty::Bool, c)?;
-    let found = find_branch_type(env.graph(), &x, &y);
-    let to = want_type(alloc, found, Code::S12, place, "?")?;
-    need_base(alloc, env, &to, a, &x)?;
-    need_base(alloc, env, &to, b, &y)?;
+    let to = need_choice(alloc, env, place, c, a, b, &d, &x, &y)?;
     make_chosen(alloc, env.graph(), &to, d, x, y)
 }
 

@@ -8,7 +8,6 @@ ghost use Rattle.mm_classes.specs.Subobjects.{end_of};
 ghost use Rattle.mm_classes.specs.Questions.{node as node_at};
 ghost use Rattle.mm_core.specs.Heads.{field_type};
 ghost use Rattle.mm_core.specs.View.{expr_view as core_view};
-ghost use Rattle.mm_overload.specs.Rank.{is_base};
 ghost use Rattle.mm_syntax.specs.Tree.{no_exprs};
 ghost use Rattle.mm_syntax.specs.View.{expr_view};
 ghost use Rattle.mm_checks.specs.Checks.{Gives, at, demand};
@@ -17,14 +16,17 @@ ghost use Rattle.mm_typing.specs.Typed.{typed_view};
 ghost use Rattle.mm_typing.specs.Objects as spec;
 ghost use Rattle.mm_check_expr.specs.Objects.{object_view};
 
-use crate::convert::{base_in, is_one_up, node_of, start_of, want_class};
+use crate::convert::{is_one_up, node_of, start_of, want_class};
 use crate::types::{is_object_kind, pointed_class, referred_class, selected_class};
+use mm_answers::may::class_in;
+use mm_answers::up::up;
 use mm_base::code::Code;
 use mm_base::place::Place;
 use mm_checks::{CheckEnd, need};
 use mm_classes::class::{MemberKind, Ty};
 use mm_classes::id::{ClassId, NodeId};
 use mm_core::tree::{CoreExpr, Move};
+use mm_overload::ranks::is_base_of;
 use mm_paths::graph::Graph;
 use mm_syntax::expr::Expr;
 use mm_syntax::name::{MemberOperator, Name};
@@ -46,7 +48,10 @@ pub(crate) struct Object {
 pub(crate) fn class_of_part(graph: &Graph, class: ClassId, node: NodeId) -> ClassId
     ensures { result ≡ end_of (node_at graph.now class node) }
 {
-    ClassId { number: 0 }
+    match class_in(graph, class, node) {
+        Some(part) => part,
+        None => ClassId { number: 0 },
+    }
 }
 
 fn is_complete_class(graph: &Graph, c: ClassId) -> bool
@@ -63,12 +68,6 @@ pub(crate) fn find_complete(graph: &Graph, name: &str) -> Option<ClassId>
         Some(class) if is_complete_class(graph, class) => Some(class),
         _ => None,
     }
-}
-
-fn is_base_of(graph: &Graph, c: ClassId, b: ClassId) -> bool
-    ensures { result ≡ is_base graph.now c b }
-{
-    false
 }
 
 // The class of a name, where it is this one or a base of it.
@@ -229,7 +228,7 @@ fn as_base(
 ) -> Result<Object, CheckEnd>
     ensures { Gives object_view result (Ok (spec.as_base graph.now (object_view object) base)) }
 {
-    let node = node_of(base_in(graph, object.naming, base));
+    let node = node_of(up(graph, object.naming, base));
     let tree = make_moved(alloc, object.naming, node, object.tree)?;
     Ok(Object {
         tree,
@@ -254,7 +253,7 @@ pub(crate) fn find_base(
         Some(class) => {
             let found = find_base_named(graph, object.naming, class.text.as_str());
             let base = want_class(alloc, found, Code::S10, place, text)?;
-            let single = is_one_up(base_in(graph, object.naming, base));
+            let single = is_one_up(up(graph, object.naming, base));
             need(alloc, single, Code::S11, place, text)?;
             as_base(alloc, graph, object, base)
         }

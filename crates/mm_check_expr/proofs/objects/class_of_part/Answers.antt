@@ -1,4 +1,0 @@
-use Rattle.mm_check_expr.proofs.objects.class_of_part.Goals as goal
-
-pub returns : goal.returns
-returns c = ?
