@@ -21,7 +21,8 @@ module _ {A V : Type 0} (next : A → V) where
   kept_last (Err f) to = refl
 
   kept_both : (r s : Checked (Unit {0})) (to : A)
-      → ((r >>= λ u. s >>= λ w. Ok to) >>= λ to. Ok (next to)) ≡ (r >>= λ u. s >>= λ w. Ok (next to))
+      → ((r >>= λ u. s >>= λ w. Ok to) >>= λ to. Ok (next to))
+        ≡ (r >>= λ u. s >>= λ w. Ok (next to))
   kept_both (Ok u) s to = kept_last s to
   kept_both (Err f) s to = refl
 

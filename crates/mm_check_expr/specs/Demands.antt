@@ -22,7 +22,8 @@ abbrev pub two_demanded : Bool → Fault → Bool → Fault → Typed → Checke
 two_demanded b f c g v = demand b f >>= λ u. demand c g >>= λ w. Ok v
 
 -- the type of both branches of `?:`, if all holds that is asked of the operands
-abbrev pub choice_type : Environment → Place → t.Expr → t.Expr → t.Expr → Typed → Typed → Typed → Checked Ty
+abbrev pub choice_type : Environment → Place → t.Expr → t.Expr → t.Expr
+    → Typed → Typed → Typed → Checked Ty
 choice_type env p c a b d x y = do
   test ← demand (test env.classes d) (unconverted c)
   to ← wanted (branch_type env.classes x y) (wrong_choice p)

@@ -87,7 +87,8 @@ pub(crate) fn start_of(e: &Expr) -> Place
     e.place
 }
 
-/// That a typed expression converts to a type; the text of its first token is looked for where it doesn't.
+/// That a typed expression converts to a type. The text of its first token is looked for only
+/// where it doesn't.
 pub(crate) fn need_converts(
     alloc: Global,
     graph: &Graph,
@@ -95,7 +96,8 @@ pub(crate) fn need_converts(
     to: &Ty,
     e: &Expr,
 ) -> Result<(), CheckEnd>
-    ensures { Gives (λ u. u) result (demand (converts graph.now (typed_view x.now) to.now) (unconverted (expr_view e.now))) }
+    ensures { Gives (λ u. u) result (demand (converts graph.now (typed_view x.now) to.now)
+        (unconverted (expr_view e.now))) }
 {
     if is_convertible(graph, x, to) {
         return Ok(());
@@ -197,7 +199,8 @@ pub(crate) fn need_base(
     e: &Expr,
     x: &TypedExpr,
 ) -> Result<(), CheckEnd>
-    ensures { Gives (λ u. u) result (base_fits env.now to.now (expr_view e.now) (typed_view x.now)) }
+    ensures { Gives (λ u. u) result (base_fits env.now to.now (expr_view e.now)
+        (typed_view x.now)) }
 {
     let step = find_step(&x.ty, to);
     if step.is_none() {
@@ -214,7 +217,8 @@ fn at_base(
     step: Option<Step>,
     core: CoreExpr,
 ) -> Result<CoreExpr, CheckEnd>
-    ensures { Gives core_view result (Ok (base_of graph.now (option_map step_view step) (core_view core))) }
+    ensures { Gives core_view result (Ok (base_of graph.now (option_map step_view step)
+        (core_view core))) }
 {
     match step {
         None => Ok(core),
@@ -295,7 +299,8 @@ pub(crate) fn convert_all(
     mut args: Items<TypedExpr>,
 ) -> Result<Items<CoreExpr>, CheckEnd>
     requires { length args ≡ length params.now }
-    ensures { Gives (map core_view) result (Ok (converted_all graph.now params.now (typeds_view args))) }
+    ensures { Gives (map core_view) result (Ok (converted_all graph.now params.now
+        (typeds_view args))) }
 {
     match params {
         [] => Ok(Items::new(alloc)),
@@ -310,8 +315,8 @@ pub(crate) fn convert_all(
     }
 }
 
-/// A typed value that is to become a type: the tree with its conversion; or the fault of a missing one, or of the base to
-/// which it goes, at the expression's first token.
+/// A typed value that is to become a type: the tree with its conversion; or the fault of a missing
+/// one, or of the base to which it goes, at the expression's first token.
 pub fn as_type(
     alloc: Global,
     env: &Env,

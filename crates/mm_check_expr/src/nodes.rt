@@ -114,7 +114,8 @@ fn find_spot(x: TypedExpr) -> Option<Spot>
 }
 
 fn want_spot(alloc: Global, x: TypedExpr, place: Place, text: &str) -> Result<Spot, CheckEnd>
-    ensures { Gives spot_view result (wanted (spec.spot_of (typed_view x)) (at S12 place text.now)) }
+    ensures { Gives spot_view result (wanted (spec.spot_of (typed_view x))
+        (at S12 place text.now)) }
 {
     if let Some(spot) = find_spot(x) {
         return Ok(spot);
@@ -133,7 +134,8 @@ fn operate(
     x: TypedExpr,
     y: TypedExpr,
 ) -> Result<TypedExpr, CheckEnd>
-    ensures { Gives typed_view result (Ok (operated graph.now op to.now (typed_view x) (typed_view y))) }
+    ensures { Gives typed_view result (Ok (operated graph.now op to.now (typed_view x)
+        (typed_view y))) }
 {
     let left = convert_boxed(alloc, graph, x, to)?;
     let right = convert_boxed(alloc, graph, y, to)?;
@@ -216,7 +218,8 @@ fn make_chosen(
     x: TypedExpr,
     y: TypedExpr,
 ) -> Result<TypedExpr, CheckEnd>
-    ensures { Gives typed_view result (Ok (chosen graph.now to.now (typed_view c) (typed_view x) (typed_view y))) }
+    ensures { Gives typed_view result (Ok (chosen graph.now to.now (typed_view c) (typed_view x)
+        (typed_view y))) }
 {
     let kind = joined_kind(x.kind, y.kind);
     let test = convert_boxed(alloc, graph, c, &Ty::Bool)?;
@@ -260,7 +263,8 @@ fn change_local(
     ty: &Ty,
     y: TypedExpr,
 ) -> Result<CoreExpr, CheckEnd>
-    ensures { Gives core_view result (Ok (changed_at graph.now op (spec.variable local) ty.now (typed_view y))) }
+    ensures { Gives core_view result (Ok (changed_at graph.now op (spec.variable local) ty.now
+        (typed_view y))) }
 {
     let old = value(CoreExpr::Local(local), *ty);
     let both = common_type(ty, &y.ty);
@@ -276,7 +280,8 @@ fn make_changed(
     ty: &Ty,
     y: TypedExpr,
 ) -> Result<TypedExpr, CheckEnd>
-    ensures { Gives typed_view result (Ok (changed graph.now op (spot_view spot) ty.now (typed_view y))) }
+    ensures { Gives typed_view result (Ok (changed graph.now op (spot_view spot) ty.now
+        (typed_view y))) }
 {
     match spot {
         Spot::Variable(local) => {
@@ -316,7 +321,8 @@ fn make_change(
     x: TypedExpr,
     y: TypedExpr,
 ) -> Result<TypedExpr, CheckEnd>
-    ensures { Gives typed_view result (own_change graph.now op (at S12 place text.now) (typed_view x) (typed_view y)) }
+    ensures { Gives typed_view result (own_change graph.now op (at S12 place text.now)
+        (typed_view x) (typed_view y)) }
 {
     let ty = x.ty;
     let spot = want_spot(alloc, x, place, text)?;
@@ -331,7 +337,8 @@ fn need_plus(
     place: Place,
     x: TypedExpr,
 ) -> Result<TypedExpr, CheckEnd>
-    ensures { Gives typed_view result (demanded (is_arithmetic x.ty) (wrong_unary UnaryOperator.Plus place) (plus graph.now (typed_view x))) }
+    ensures { Gives typed_view result (demanded (is_arithmetic x.ty)
+        (wrong_unary UnaryOperator.Plus place) (plus graph.now (typed_view x))) }
 {
     need(alloc, is_arithmetic_type(&x.ty), Code::S12, place, "+")?;
     make_plus(alloc, graph, x)
@@ -343,14 +350,16 @@ fn need_minus(
     place: Place,
     x: TypedExpr,
 ) -> Result<TypedExpr, CheckEnd>
-    ensures { Gives typed_view result (demanded (is_arithmetic x.ty) (wrong_unary UnaryOperator.Minus place) (minus graph.now (typed_view x))) }
+    ensures { Gives typed_view result (demanded (is_arithmetic x.ty)
+        (wrong_unary UnaryOperator.Minus place) (minus graph.now (typed_view x))) }
 {
     need(alloc, is_arithmetic_type(&x.ty), Code::S12, place, "-")?;
     make_minus(alloc, graph, x)
 }
 
 fn need_not(alloc: Global, graph: &Graph, a: &Expr, x: TypedExpr) -> Result<TypedExpr, CheckEnd>
-    ensures { Gives typed_view result (demanded (converts graph.now (typed_view x) Ty.Bool) (unconverted (expr_view a.now)) (negated graph.now (typed_view x))) }
+    ensures { Gives typed_view result (demanded (converts graph.now (typed_view x) Ty.Bool)
+        (unconverted (expr_view a.now)) (negated graph.now (typed_view x))) }
 {
     need_converts(alloc, graph, &x, &Ty::Bool, a)?;
     make_not(alloc, graph, x)
@@ -364,7 +373,8 @@ pub(crate) fn make_unary(
     a: &Expr,
     x: TypedExpr,
 ) -> Result<TypedExpr, CheckEnd>
-    ensures { Gives typed_view result (own_unary graph.now op place (expr_view a.now) (typed_view x)) }
+    ensures { Gives typed_view result (own_unary graph.now op place (expr_view a.now)
+        (typed_view x)) }
 {
     match op {
         UnaryOperator::Plus => need_plus(alloc, graph, place, x),
@@ -404,7 +414,9 @@ fn need_both(
     x: TypedExpr,
     y: TypedExpr,
 ) -> Result<TypedExpr, CheckEnd>
-    ensures { Gives typed_view result (two_demanded (converts graph.now (typed_view x) Ty.Bool) (unconverted (expr_view a.now)) (converts graph.now (typed_view y) Ty.Bool) (unconverted (expr_view b.now)) (both_of graph.now (typed_view x) (typed_view y))) }
+    ensures { Gives typed_view result (two_demanded (converts graph.now (typed_view x) Ty.Bool)
+        (unconverted (expr_view a.now)) (converts graph.now (typed_view y) Ty.Bool)
+        (unconverted (expr_view b.now)) (both_of graph.now (typed_view x) (typed_view y))) }
 {
     need_converts(alloc, graph, &x, &Ty::Bool, a)?;
     need_converts(alloc, graph, &y, &Ty::Bool, b)?;
@@ -419,7 +431,9 @@ fn need_either(
     x: TypedExpr,
     y: TypedExpr,
 ) -> Result<TypedExpr, CheckEnd>
-    ensures { Gives typed_view result (two_demanded (converts graph.now (typed_view x) Ty.Bool) (unconverted (expr_view a.now)) (converts graph.now (typed_view y) Ty.Bool) (unconverted (expr_view b.now)) (either_of graph.now (typed_view x) (typed_view y))) }
+    ensures { Gives typed_view result (two_demanded (converts graph.now (typed_view x) Ty.Bool)
+        (unconverted (expr_view a.now)) (converts graph.now (typed_view y) Ty.Bool)
+        (unconverted (expr_view b.now)) (either_of graph.now (typed_view x) (typed_view y))) }
 {
     need_converts(alloc, graph, &x, &Ty::Bool, a)?;
     need_converts(alloc, graph, &y, &Ty::Bool, b)?;
@@ -437,7 +451,9 @@ fn need_operands(
     x: TypedExpr,
     y: TypedExpr,
 ) -> Result<TypedExpr, CheckEnd>
-    ensures { Gives typed_view result (own_operation env.now (Operation.Two op) (at S12 place text.now) (expr_view a.now) (expr_view b.now) (typed_view x) (typed_view y)) }
+    ensures { Gives typed_view result (own_operation env.now (Operation.Two op)
+        (at S12 place text.now) (expr_view a.now) (expr_view b.now) (typed_view x) (typed_view y))
+        }
 {
     let found = find_operand_type(env.graph(), op, &x, &y);
     let to = want_type(alloc, found, Code::S12, place, text)?;
@@ -457,7 +473,8 @@ pub(crate) fn make_operation(
     x: TypedExpr,
     y: TypedExpr,
 ) -> Result<TypedExpr, CheckEnd>
-    ensures { Gives typed_view result (own_operation env.now op (at S12 place text.now) (expr_view a.now) (expr_view b.now) (typed_view x) (typed_view y)) }
+    ensures { Gives typed_view result (own_operation env.now op (at S12 place text.now)
+        (expr_view a.now) (expr_view b.now) (typed_view x) (typed_view y)) }
 {
     match op {
         Operation::And => need_both(alloc, env.graph(), a, b, x, y),
@@ -479,7 +496,8 @@ fn need_choice(
     y: &TypedExpr,
 ) -> Result<Ty, CheckEnd>
     ensures { Gives (λ t. t) result (choice_type env.now place (expr_view c.now)
-        (expr_view a.now) (expr_view b.now) (typed_view d.now) (typed_view x.now) (typed_view y.now)) }
+        (expr_view a.now) (expr_view b.now)
+        (typed_view d.now) (typed_view x.now) (typed_view y.now)) }
 {
     need_converts(alloc, env.graph(), d, &Ty::Bool, c)?;
     let found = find_branch_type(env.graph(), x, y);
@@ -516,7 +534,8 @@ fn make_assigned(
     x: TypedExpr,
     y: TypedExpr,
 ) -> Result<TypedExpr, CheckEnd>
-    ensures { Gives typed_view result (own_set env.now (at S12 place text.now) (expr_view b.now) (typed_view x) (typed_view y)) }
+    ensures { Gives typed_view result (own_set env.now (at S12 place text.now) (expr_view b.now)
+        (typed_view x) (typed_view y)) }
 {
     let ty = x.ty;
     let spot = want_spot(alloc, x, place, text)?;
@@ -535,7 +554,8 @@ pub(crate) fn make_assign(
     x: TypedExpr,
     y: TypedExpr,
 ) -> Result<TypedExpr, CheckEnd>
-    ensures { Gives typed_view result (own_assign env.now op (at S12 place text.now) (expr_view b.now) (typed_view x) (typed_view y)) }
+    ensures { Gives typed_view result (own_assign env.now op (at S12 place text.now)
+        (expr_view b.now) (typed_view x) (typed_view y)) }
 {
     match op {
         Assignment::Set => make_assigned(alloc, env, place, text, b, x, y),

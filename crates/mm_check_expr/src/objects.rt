@@ -34,7 +34,8 @@ use mm_typing::typed::{Kind, TypedExpr};
 use sqlite_items::Boxed;
 use std::alloc::Global;
 
-/// An object in which a name is looked up: its tree, the class that names the member, and the class of the whole object.
+/// An object in which a name is looked up: its tree, the class that names the member, and the class
+/// of the whole object.
 #[derive(Drop)]
 pub(crate) struct Object {
     pub tree: CoreExpr,
@@ -121,7 +122,8 @@ fn shown(core: CoreExpr, ty: Ty) -> TypedExpr
 
 // That a class is complete, at the first token of the expression of its type.
 fn need_complete(alloc: Global, graph: &Graph, c: ClassId, a: &Expr) -> Result<(), CheckEnd>
-    ensures { Gives (λ u. u) result (demand (spec.is_complete graph.now c) (spec.incomplete (expr_view a.now))) }
+    ensures { Gives (λ u. u) result (demand (spec.is_complete graph.now c)
+        (spec.incomplete (expr_view a.now))) }
 {
     if is_complete_class(graph, c) {
         return Ok(());
@@ -138,7 +140,8 @@ pub(crate) fn make_followed(
     a: &Expr,
     x: TypedExpr,
 ) -> Result<TypedExpr, CheckEnd>
-    ensures { Gives typed_view result (spec.own_follow graph.now (at S12 place text.now) (expr_view a.now) (typed_view x)) }
+    ensures { Gives typed_view result (spec.own_follow graph.now (at S12 place text.now)
+        (expr_view a.now) (typed_view x)) }
 {
     let class = want_class(alloc, pointed_class(&x.ty), Code::S12, place, text)?;
     need_complete(alloc, graph, class, a)?;
@@ -162,7 +165,8 @@ pub(crate) fn make_address(
 /// `new` of the class of a name.
 pub(crate) fn make_new(alloc: Global, graph: &Graph, class: &Name) -> Result<TypedExpr, CheckEnd>
     ensures new { Gives typed_view result (spec.own_new graph.now class.now) }
-    ensures make { (p : Place) → Gives typed_view result (spec.own_make graph.now p class.now no_exprs) }
+    ensures make { (p : Place) → Gives typed_view result
+        (spec.own_make graph.now p class.now no_exprs) }
 {
     let found = find_complete(graph, class.text.as_str());
     let class = want_class(alloc, found, Code::S3, class.place, class.text.as_str())?;
@@ -207,7 +211,8 @@ pub(crate) fn find_object(
     a: &Expr,
     x: TypedExpr,
 ) -> Result<Object, CheckEnd>
-    ensures { Gives object_view result (spec.own_object graph.now op place (expr_view a.now) (typed_view x)) }
+    ensures { Gives object_view result (spec.own_object graph.now op place (expr_view a.now)
+        (typed_view x)) }
 {
     let found = selected_class(op, &x.ty);
     let class = want_class(alloc, found, Code::S12, place, op.spelling())?;
@@ -246,7 +251,8 @@ pub(crate) fn find_base(
     object: Object,
     class: Option<&Name>,
 ) -> Result<Object, CheckEnd>
-    ensures { Gives object_view result (spec.own_base graph.now place text.now (object_view object) (option_copied class.entry)) }
+    ensures { Gives object_view result (spec.own_base graph.now place text.now
+        (object_view object) (option_copied class.entry)) }
 {
     match class {
         None => Ok(object),
@@ -262,7 +268,8 @@ pub(crate) fn find_base(
 
 // ---- fields
 
-// The type of a field, by its number among the members of a class. Of a number that no field has it is `void`.
+// The type of a field, by its number among the members of a class. Of a number that no field has it
+// is `void`.
 fn type_of_field(graph: &Graph, class: ClassId, member: u32) -> Ty
     ensures { result ≡ field_type graph.now class member }
 {
@@ -286,7 +293,8 @@ pub(crate) fn make_field(
     node: NodeId,
     member: u32,
 ) -> Result<TypedExpr, CheckEnd>
-    ensures { Gives typed_view result (Ok (spec.field_typed graph.now (object_view object) node member)) }
+    ensures { Gives typed_view result (Ok (spec.field_typed graph.now (object_view object) node
+        member)) }
 {
     let class = class_of_part(graph, object.naming, node);
     let tree = make_moved(alloc, object.naming, node, object.tree)?;
