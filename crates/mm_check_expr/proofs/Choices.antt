@@ -1,17 +1,19 @@
--- What `?:` makes, once the type of both branches is known.
+-- What operators make, once the type of both operands is known.
 use Rattle.std.proofs.Common.{◌≡◌, refl, sym, ap, ◌∙◌}
 use Rattle.std.specs.Prelude.{Ok, Err}
 use Rattle.mm_base.specs.declared.place.Place.{Place}
 use Rattle.mm_classes.specs.declared.class.Ty.{Ty}
+use Rattle.mm_core.specs.declared.part.Operator.{Operator}
 use Rattle.mm_syntax.specs.Tree as t
 use Rattle.mm_scopes.specs.Environment.{Environment}
 use Rattle.mm_checks.specs.declared.CheckEnd.{CheckEnd}
 use Rattle.mm_checks.specs.declared.CheckEnd.TheVariants as ends
 use Rattle.mm_checks.specs.Checks.{Fault, Checked, ◌>>=◌, at, demand, wanted, Fails}
+use Rattle.mm_typing.specs.declared.typed.Operation.TheVariants as operation
 use Rattle.mm_typing.specs.Typed.{Typed}
 use Rattle.mm_typing.specs.Conversions.{unconverted, base_fits}
-use Rattle.mm_typing.specs.Operators.{test, branch_type, wrong_choice, chosen, own_choose}
-use Rattle.mm_check_expr.specs.Demands.{choice_type}
+use Rattle.mm_typing.specs.Operators.{test, operand_type, branch_type, wrong_choice, operated, chosen, own_operation, own_choose}
+use Rattle.mm_check_expr.specs.Demands.{operation_type, choice_type}
 
 module _ {A V : Type 0} (next : A → V) where
   -- a part, of which the value is used again
@@ -37,6 +39,24 @@ module _ {A V : Type 0} (next : A → V) where
         ≡ (q >>= λ v. o >>= λ to. r to >>= λ u. s to >>= λ w. Ok (next to))
   kept (Ok v) o r s = kept_from o r s
   kept (Err f) o r s = refl
+
+module _ (env : Environment) (op : Operator) (f : Fault) (a b : t.Expr) (x y : Typed) where
+  operated_as : (operation_type env op f a b x y >>= λ to. Ok (operated env.classes op to x y))
+      ≡ own_operation env (operation.Two op) f a b x y
+  operated_as = kept_from (λ to. operated env.classes op to x y)
+      (wanted (operand_type env.classes op x y) f)
+      (λ to. base_fits env to a x) (λ to. base_fits env to b y)
+
+  pub operation_holds : (to : Ty) → operation_type env op f a b x y ≡ Ok to
+      → own_operation env (operation.Two op) f a b x y ≡ Ok (operated env.classes op to x y)
+  operation_holds to e =
+      sym operated_as ∙ ap (λ r. r >>= λ to. Ok (operated env.classes op to x y)) e
+
+  pub operation_fails : (end : CheckEnd) → Fails end (operation_type env op f a b x y)
+      → Fails end (own_operation env (operation.Two op) f a b x y)
+  operation_fails ends.NoMemory h = tt
+  operation_fails (ends.Fault code place text) h =
+      sym operated_as ∙ ap (λ r. r >>= λ to. Ok (operated env.classes op to x y)) h
 
 module _ (env : Environment) (p : Place) (c a b : t.Expr) (d x y : Typed) where
   choose_as : (choice_type env p c a b d x y >>= λ to. Ok (chosen env.classes to d x y))

@@ -6,14 +6,14 @@ ghost use Rattle.mm_core.specs.View.{expr_view as core_view};
 ghost use Rattle.mm_core.specs.Tree.{bool};
 ghost use Rattle.mm_syntax.specs.View.{expr_view};
 ghost use Rattle.mm_checks.specs.Checks.{Gives, at, demand, wanted};
-ghost use Rattle.mm_check_expr.specs.Demands.{demanded, two_demanded, choice_type};
+ghost use Rattle.mm_check_expr.specs.Demands.{demanded, both_demanded, two_demanded, operation_type, choice_type};
 ghost use Rattle.mm_check_expr.specs.Objects.{spot_view};
 ghost use Rattle.mm_base.specs.declared.code.TheConstants.Code.{S12};
 ghost use Rattle.mm_typing.specs.Typed as spec;
 ghost use Rattle.mm_typing.specs.Typed.{typed, typed_view, number_typed};
 ghost use Rattle.mm_core.specs.Valid.{is_arithmetic};
-ghost use Rattle.mm_typing.specs.Conversions.{converts, unconverted};
-ghost use Rattle.mm_typing.specs.Operators.{wrong_unary, operated, plus, minus, negated, both_of, either_of, chosen, kind_of_both, set, set_at, changed, changed_at, stepped, stepped_at, one, zero_of, own_change, own_unary, own_step, own_operation, own_choose, own_set, own_assign};
+ghost use Rattle.mm_typing.specs.Conversions.{unconverted};
+ghost use Rattle.mm_typing.specs.Operators.{wrong_unary, operated, plus, minus, negated, both_of, either_of, chosen, kind_of_both, set, set_at, changed, changed_at, stepped, stepped_at, one, zero_of, own_change, own_unary, own_step, own_operation, own_choose, own_set, own_assign, test};
 
 use crate::convert::{convert, convert_boxed, need_base, need_converts, want_type};
 use crate::objects::{make_address, make_followed};
@@ -358,7 +358,7 @@ fn need_minus(
 }
 
 fn need_not(alloc: Global, graph: &Graph, a: &Expr, x: TypedExpr) -> Result<TypedExpr, CheckEnd>
-    ensures { Gives typed_view result (demanded (converts graph.now (typed_view x) Ty.Bool)
+    ensures { Gives typed_view result (demanded (test graph.now (typed_view x))
         (unconverted (expr_view a.now)) (negated graph.now (typed_view x))) }
 {
     need_converts(alloc, graph, &x, &Ty::Bool, a)?;
@@ -406,6 +406,23 @@ pub(crate) fn make_step(
     Ok(make_stepped(change(op), spot, &ty))
 }
 
+// Both operands of `&&` or `||`.
+fn need_tests(
+    alloc: Global,
+    graph: &Graph,
+    a: &Expr,
+    b: &Expr,
+    x: &TypedExpr,
+    y: &TypedExpr,
+) -> Result<(), CheckEnd>
+    ensures { Gives (λ u. u) result (both_demanded
+        (test graph.now (typed_view x.now)) (unconverted (expr_view a.now))
+        (test graph.now (typed_view y.now)) (unconverted (expr_view b.now))) }
+{
+    need_converts(alloc, graph, x, &Ty::Bool, a)?;
+    need_converts(alloc, graph, y, &Ty::Bool, b)
+}
+
 fn need_both(
     alloc: Global,
     graph: &Graph,
@@ -414,12 +431,12 @@ fn need_both(
     x: TypedExpr,
     y: TypedExpr,
 ) -> Result<TypedExpr, CheckEnd>
-    ensures { Gives typed_view result (two_demanded (converts graph.now (typed_view x) Ty.Bool)
-        (unconverted (expr_view a.now)) (converts graph.now (typed_view y) Ty.Bool)
-        (unconverted (expr_view b.now)) (both_of graph.now (typed_view x) (typed_view y))) }
+    ensures { Gives typed_view result (two_demanded
+        (test graph.now (typed_view x)) (unconverted (expr_view a.now))
+        (test graph.now (typed_view y)) (unconverted (expr_view b.now))
+        (both_of graph.now (typed_view x) (typed_view y))) }
 {
-    need_converts(alloc, graph, &x, &Ty::Bool, a)?;
-    need_converts(alloc, graph, &y, &Ty::Bool, b)?;
+    need_tests(alloc, graph, a, b, &x, &y)?;
     make_both(alloc, graph, x, y)
 }
 
@@ -431,16 +448,38 @@ fn need_either(
     x: TypedExpr,
     y: TypedExpr,
 ) -> Result<TypedExpr, CheckEnd>
-    ensures { Gives typed_view result (two_demanded (converts graph.now (typed_view x) Ty.Bool)
-        (unconverted (expr_view a.now)) (converts graph.now (typed_view y) Ty.Bool)
-        (unconverted (expr_view b.now)) (either_of graph.now (typed_view x) (typed_view y))) }
+    ensures { Gives typed_view result (two_demanded
+        (test graph.now (typed_view x)) (unconverted (expr_view a.now))
+        (test graph.now (typed_view y)) (unconverted (expr_view b.now))
+        (either_of graph.now (typed_view x) (typed_view y))) }
 {
-    need_converts(alloc, graph, &x, &Ty::Bool, a)?;
-    need_converts(alloc, graph, &y, &Ty::Bool, b)?;
+    need_tests(alloc, graph, a, b, &x, &y)?;
     make_either(alloc, graph, x, y)
 }
 
-fn need_operands(
+// The type in which an operator works, and all that is asked of both operands.
+fn need_operation(
+    alloc: Global,
+    env: &Env,
+    op: Operator,
+    place: Place,
+    text: &str,
+    a: &Expr,
+    b: &Expr,
+    x: &TypedExpr,
+    y: &TypedExpr,
+) -> Result<Ty, CheckEnd>
+    ensures { Gives (λ t. t) result (operation_type env.now op (at S12 place text.now)
+        (expr_view a.now) (expr_view b.now) (typed_view x.now) (typed_view y.now)) }
+{
+    let found = find_operand_type(env.graph(), op, x, y);
+    let to = want_type(alloc, found, Code::S12, place, text)?;
+    need_base(alloc, env, &to, a, x)?;
+    need_base(alloc, env, &to, b, y)?;
+    Ok(to)
+}
+
+fn make_operated(
     alloc: Global,
     env: &Env,
     op: Operator,
@@ -452,13 +491,10 @@ fn need_operands(
     y: TypedExpr,
 ) -> Result<TypedExpr, CheckEnd>
     ensures { Gives typed_view result (own_operation env.now (Operation.Two op)
-        (at S12 place text.now) (expr_view a.now) (expr_view b.now) (typed_view x) (typed_view y))
-        }
+        (at S12 place text.now) (expr_view a.now) (expr_view b.now)
+        (typed_view x) (typed_view y)) }
 {
-    let found = find_operand_type(env.graph(), op, &x, &y);
-    let to = want_type(alloc, found, Code::S12, place, text)?;
-    need_base(alloc, env, &to, a, &x)?;
-    need_base(alloc, env, &to, b, &y)?;
+    let to = need_operation(alloc, env, op, place, text, a, b, &x, &y)?;
     operate(alloc, env.graph(), op, &to, x, y)
 }
 
@@ -479,7 +515,7 @@ pub(crate) fn make_operation(
     match op {
         Operation::And => need_both(alloc, env.graph(), a, b, x, y),
         Operation::Or => need_either(alloc, env.graph(), a, b, x, y),
-        Operation::Two(op) => need_operands(alloc, env, op, place, text, a, b, x, y),
+        Operation::Two(op) => make_operated(alloc, env, op, place, text, a, b, x, y),
     }
 }
 
