@@ -1,11 +1,16 @@
 -- Which meaning of a name one in memory is. Own.
 use Rattle.std.specs.Prelude.{ℕ, List, [], ◌∷◌, map, Option, Some, None, option_map}
+use Rattle.mm_base.specs.declared.place.Place.{Place}
 use Rattle.mm_syntax.specs.declared.name.Name.{Name}
+use Rattle.mm_syntax.specs.declared.name.MemberOperator.{MemberOperator}
 use Rattle.mm_syntax.specs.First.{place_of}
 use Rattle.mm_syntax.specs.Tree as t
 use Rattle.mm_scopes.specs.Environment.{Environment}
 use Rattle.mm_scopes.specs.Names.{named}
-use Rattle.mm_typing.specs.Typed.{typed_view}
+use Rattle.mm_checks.specs.Checks.{Checked, ◌>>=◌}
+use Rattle.mm_typing.specs.Typed.{Typed, typed_view}
+use Rattle.mm_typing.specs.Objects.{wrong_member}
+use Rattle.mm_typing.specs.Judge.{judge}
 use Rattle.mm_typing.specs.Calls as calls
 use Rattle.mm_check_expr.specs.declared.names.Receiver.{Receiver}
 use Rattle.mm_check_expr.specs.declared.names.Callee.{Callee}
@@ -40,3 +45,13 @@ name_in (t.name p x) = calls.word p x
 name_in (t.scoped p class n) = n
 name_in (t.member p a op at class n) = n
 name_in other = calls.word (place_of other) []
+
+-- ---- a member, whose object was checked
+
+-- as a value
+abbrev pub own_member : Environment → t.Expr → MemberOperator → Place → Option Name → Name → Typed → Checked Typed
+own_member env a op p class n x = calls.selected_meaning env a op p class n x >>= calls.value_of (wrong_member op p)
+
+-- as what is called
+abbrev pub own_method : Environment → t.Expr → MemberOperator → Place → Option Name → Name → Checked Typed → Checked (Option calls.Callee)
+own_method env a op p class n before = calls.called (before >>= calls.selected_meaning env a op p class n)

@@ -20,10 +20,9 @@ ghost use Rattle.mm_check_expr.specs.Meanings.{receiver_view, callee_view, maybe
 ghost use Rattle.mm_check_expr.specs.Resolved.{functions_of, best_among, resolved, passed};
 
 use crate::convert::{convert_all, need_base, refuse, start_of};
-use crate::names::{Callee, Receiver};
+use crate::names::{Callee, Receiver, may_use};
 use crate::objects::{class_of_part, make_moved};
 use crate::types::is_same;
-use mm_answers::may::may;
 use mm_base::code::Code;
 use mm_base::place::Place;
 use mm_base::world::Builtin;
@@ -325,10 +324,8 @@ fn may_call(
     requires { class ≡ declarer env.now.classes (receiver_view receiver.now) }
     ensures { result ≡ is_allowed_on env.now (Some (receiver_view receiver.now)) name.now params.now }
 {
-    let graph = env.graph();
-    let member = find_method(members_in(graph, class), name, params);
-    let of = &receiver.of;
-    may(graph, env.from(), of.naming, receiver.node, member as u32, of.whole)
+    let member = find_method(members_in(env.graph(), class), name, params);
+    may_use(env, &receiver.of, receiver.node, member as u32)
 }
 
 // The object that a member function is called for, as an argument.

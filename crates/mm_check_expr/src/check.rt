@@ -5,12 +5,12 @@ ghost use Rattle.std.specs.Option.{option_copied};
 ghost use Rattle.mm_core.specs.View.{expr_view as core_view};
 ghost use Rattle.mm_syntax.specs.View.{expr_view, exprs_view};
 ghost use Rattle.mm_syntax.specs.Tree.{unary, step, binary, choose, assign, make, call, member};
-ghost use Rattle.mm_checks.specs.Checks.{Gives, Answers, ◌>>=◌};
+ghost use Rattle.mm_checks.specs.Checks.{Gives, Answers};
 ghost use Rattle.mm_typing.specs.Typed.{typed_view, typeds_view};
-ghost use Rattle.mm_typing.specs.Calls.{callee, called, selected_meaning};
+ghost use Rattle.mm_typing.specs.Calls.{callee};
 ghost use Rattle.mm_typing.specs.Judge.{judge, judge_all, judge_as, judge_before};
 ghost use Rattle.mm_typing.specs.Typing.{Types, Faults, TypesAs, FaultsAs};
-ghost use Rattle.mm_check_expr.specs.Meanings.{maybe_callee_view, name_in};
+ghost use Rattle.mm_check_expr.specs.Meanings.{maybe_callee_view, name_in, own_method};
 ghost use Rattle.mm_check_expr.specs.Resolved.{no_function};
 
 use crate::calls::make_call;
@@ -208,7 +208,7 @@ fn check_method(
     class: Option<&Name>,
     name: &Name,
 ) -> Result<Option<Callee>, CheckEnd>
-    ensures { Gives (maybe_callee_view env.now name.now) result (called (judge env.now (expr_view a.now) >>= selected_meaning env.now (expr_view a.now) op at (option_copied class.entry) name.now)) }
+    ensures { Gives (maybe_callee_view env.now name.now) result (own_method env.now (expr_view a.now) op at (option_copied class.entry) name.now (judge env.now (expr_view a.now))) }
 {
     let x = check(alloc, env, a)?;
     call_member(alloc, env, a, op, at, class, name, x)

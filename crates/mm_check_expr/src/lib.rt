@@ -1,6 +1,7 @@
 //! The check of expressions.
 #![tactic(auto, using(crate::proofs::Given::rules_of_trees))]
 
+pub(crate) mod answers;
 pub(crate) mod calls;
 pub mod check;
 pub mod convert;

@@ -6,20 +6,19 @@ ghost use Rattle.mm_base.specs.declared.code.TheConstants.Code.{S12};
 ghost use Rattle.mm_base.specs.declared.place.Place.{Place};
 ghost use Rattle.mm_syntax.specs.declared.name.Name.{Name};
 ghost use Rattle.mm_syntax.specs.View.{expr_view};
-ghost use Rattle.mm_checks.specs.Checks.{Gives, ◌>>=◌, at};
+ghost use Rattle.mm_answers.specs.Accessing.{is_allowed};
+ghost use Rattle.mm_checks.specs.Checks.{Gives, at};
 ghost use Rattle.mm_scopes.specs.Environment.{Environment};
 ghost use Rattle.mm_typing.specs.Typed.{typed_view, local_typed};
 ghost use Rattle.mm_typing.specs.Judge.{judge};
 ghost use Rattle.mm_syntax.specs.Tree.{name as name_tree, scoped as scoped_tree};
-ghost use Rattle.mm_typing.specs.Objects.{wrong_member};
 ghost use Rattle.mm_typing.specs.Calls.{functions, member_callee, word, builtin_of, declared, unit_callee, unit_meaning, class_meaning, field_meaning, member_meaning, name_meaning, scoped_meaning, selected_meaning, value_of, called, callee_in};
 ghost use Rattle.mm_check_expr.specs.Objects.{object_view};
-ghost use Rattle.mm_check_expr.specs.Meanings.{callee_view, maybe_callee_view, meaning_view};
+ghost use Rattle.mm_check_expr.specs.Meanings.{callee_view, maybe_callee_view, meaning_view, own_member};
 
 use crate::convert::{refuse, start_of, want_class};
 use crate::objects::{Object, find_base, find_object, make_field, this_object};
-use mm_answers::find::find;
-use mm_answers::may::may;
+use crate::answers::{find, may};
 use mm_base::code::Code;
 use mm_base::place::Place;
 use mm_base::text::Text;
@@ -88,10 +87,10 @@ fn find_builtin(name: &str) -> Option<Builtin>
     }
 }
 
-fn is_declared(env: &Env, name: &str) -> bool
-    ensures { IsTrue result ↔ (declared env.now name.now ≡ [] → ⊥) }
+fn is_undeclared(env: &Env, name: &str) -> bool
+    ensures { IsTrue result ↔ (declared env.now name.now ≡ []) }
 {
-    find_builtin(name).is_some() || env.count_named(name) > 0
+    find_builtin(name).is_none() && env.count_named(name) == 0
 }
 
 // The functions that a declared name calls.
@@ -110,7 +109,7 @@ fn find_functions(env: &Env, place: Place, name: &str) -> Callee
 fn find_in_unit(alloc: Global, env: &Env, place: Place, name: &str) -> Result<Meaning, CheckEnd>
     ensures { Gives (meaning_view env.now (word place name.now)) result (unit_meaning env.now (word place name.now)) }
 {
-    if !is_declared(env, name) {
+    if is_undeclared(env, name) {
         return refuse_name(alloc, Code::S1, place, name);
     }
     Ok(Meaning::Functions(find_functions(env, place, name)))
@@ -118,7 +117,14 @@ fn find_in_unit(alloc: Global, env: &Env, place: Place, name: &str) -> Result<Me
 
 // ---- in an object
 
-// A field, by the number of the subobject whose class declares it, and by its own.
+/// Whether a member may be used here, by the number of the subobject whose class declares it, and by its own.
+pub(crate) fn may_use(env: &Env, object: &Object, node: NodeId, member: u32) -> bool
+    ensures { result ≡ is_allowed env.now.classes env.now.from.class object.now.naming node member object.now.whole }
+{
+    let (naming, whole) = (object.naming, object.whole);
+    may(env.graph(), env.from(), naming, node, member, whole)
+}
+
 fn find_field(
     alloc: Global,
     env: &Env,
@@ -130,10 +136,10 @@ fn find_field(
 ) -> Result<Meaning, CheckEnd>
     ensures { Gives (meaning_view env.now (word place name.now)) result (field_meaning env.now (object_view object) (word place name.now) node member) }
 {
-    let graph = env.graph();
-    let allowed = may(graph, env.from(), object.naming, node, member, object.whole);
+    let allowed = may_use(env, &object, node, member);
     need(alloc, allowed, Code::S7, place, name)?;
-    Ok(Meaning::Value(make_field(alloc, graph, object, node, member)?))
+    let field = make_field(alloc, env.graph(), object, node, member)?;
+    Ok(Meaning::Value(field))
 }
 
 fn methods_of(object: Object, node: NodeId) -> Meaning
@@ -291,7 +297,7 @@ pub(crate) fn make_member(
     name: &Name,
     x: TypedExpr,
 ) -> Result<TypedExpr, CheckEnd>
-    ensures { Gives typed_view result (selected_meaning env.now (expr_view a.now) op place (option_copied class.entry) name.now (typed_view x) >>= value_of (wrong_member op place)) }
+    ensures { Gives typed_view result (own_member env.now (expr_view a.now) op place (option_copied class.entry) name.now (typed_view x)) }
 {
     let meaning = find_selected(alloc, env, a, op, place, class, name, x)?;
     as_value(alloc, meaning, place, op.spelling())
