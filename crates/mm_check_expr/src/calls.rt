@@ -192,6 +192,22 @@ fn answered(which: Builtin) -> Ty
     }
 }
 
+// Whether a call takes a built-in function, of which there is one.
+fn choose_builtin(
+    alloc: Global,
+    env: &Env,
+    which: Builtin,
+    params: &[Ty],
+    args: &[TypedExpr],
+) -> Result<Best, AllocError>
+    requires { params.now ≡ types_asked which }
+    ensures best { IfOk result (λ best. best ≡ best_among env.now (builtin which ∷ []) (typeds_view args.now)) }
+    ensures choice { IfOk result (λ best. IsChoice env.now.classes (map arg_of (typeds_view args.now)) (map params_in (builtin which ∷ [])) best) }
+{
+    let types = as_args(alloc, args)?;
+    Ok(get_best(env.graph(), types.as_slice(), &[params]))
+}
+
 fn call_builtin(
     alloc: Global,
     graph: &Graph,
@@ -234,9 +250,8 @@ fn resolve_builtin(
 ) -> Result<TypedExpr, CheckEnd>
     ensures { Gives typed_view result (resolved env.now (callee_view env.now (word place name.now) (Callee.Builtin which)) (exprs_view es.now) (typeds_view args)) }
 {
-    let types = as_args(alloc, args.as_slice())?;
     let params = asked(alloc, which)?;
-    match get_best(env.graph(), types.as_slice(), &[params.as_slice()]) {
+    match choose_builtin(alloc, env, which, params.as_slice(), args.as_slice())? {
         Best::One(_) => pass_to_builtin(alloc, env, which, params.as_slice(), es, args),
         Best::None => refuse(alloc, Code::S8, place, name),
         Best::Several => refuse(alloc, Code::S9, place, name),
@@ -293,12 +308,10 @@ fn is_the_method(member: &Member, name: &str, params: &[Ty]) -> bool
 fn find_method(members: &[Member], name: &str, params: &[Ty]) -> usize
     ensures { result ≡ method_number members.now name.now params.now }
 {
-    for i in 0..members.len() {
-        if is_the_method(&members[i], name, params) {
-            return i;
-        }
+    match members.iter().position(|member| is_the_method(member, name, params)) {
+        Some(i) => i,
+        None => members.len(),
     }
-    members.len()
 }
 
 // The members of a class. Of a number that no class has there are none.
@@ -403,6 +416,32 @@ fn take_method(
     pass_to_method(alloc, env, receiver, head, es, args)
 }
 
+// The call by what overload resolution takes of the functions that have the qualified name.
+fn resolve_qualified(
+    alloc: Global,
+    env: &Env,
+    receiver: Receiver,
+    class: ClassId,
+    function: &str,
+    place: Place,
+    name: &str,
+    es: &[Expr],
+    args: Items<TypedExpr>,
+) -> Result<TypedExpr, CheckEnd>
+    requires class { class ≡ declarer env.now.classes (receiver_view receiver) }
+    requires function { function.now ≡ qualified (name_of env.now.classes class) name.now }
+    ensures { Gives typed_view result (resolved env.now (callee_view env.now (word place name.now) (Callee.Methods receiver)) (exprs_view es.now) (typeds_view args)) }
+{
+    match choose(alloc, env, function, args.as_slice())? {
+        Best::One(i) => {
+            let head = env.nth_named(function, i);
+            take_method(alloc, env, receiver, class, place, name, head, es, args)
+        }
+        Best::None => refuse(alloc, Code::S8, place, name),
+        Best::Several => refuse(alloc, Code::S9, place, name),
+    }
+}
+
 fn resolve_methods(
     alloc: Global,
     env: &Env,
@@ -414,17 +453,13 @@ fn resolve_methods(
 ) -> Result<TypedExpr, CheckEnd>
     ensures { Gives typed_view result (resolved env.now (callee_view env.now (word place name.now) (Callee.Methods receiver)) (exprs_view es.now) (typeds_view args)) }
 {
-    let graph = env.graph();
-    let class = class_of_part(graph, receiver.of.naming, receiver.node);
-    let function = qualify(alloc, class_name(graph, class), name)?;
-    let function = function.as_str();
-    match choose(alloc, env, function, args.as_slice())? {
-        Best::One(i) => {
-            let head = env.nth_named(function, i);
-            take_method(alloc, env, receiver, class, place, name, head, es, args)
+    let class = class_of_part(env.graph(), receiver.of.naming, receiver.node);
+    match qualify(alloc, class_name(env.graph(), class), name) {
+        Err(_) => Err(CheckEnd::NoMemory),
+        Ok(function) => {
+            let function = function.as_str();
+            resolve_qualified(alloc, env, receiver, class, function, place, name, es, args)
         }
-        Best::None => refuse(alloc, Code::S8, place, name),
-        Best::Several => refuse(alloc, Code::S9, place, name),
     }
 }
 
