@@ -1,6 +1,7 @@
-/* A plain interpreter of C texts of the profile that mmc writes, to measure mmc's own runner by. It reads a text into
-   trees and walks them. It takes the text for well formed, looks neither for overflow nor at bounds, and recurses as deep
-   as the program does. `interpreter TEXT` writes what the text puts, and ends with what `main` returns. */
+/* A plain interpreter of C texts of the profile that mmc writes, to measure mmc's own runner by. It
+   reads a text into trees and walks them. It takes the text for well formed, looks neither for
+   overflow nor at bounds, and recurses as deep as the program does. `interpreter TEXT` writes what
+   the text puts, and ends with what `main` returns. */
 #include <ctype.h>
 #include <stdint.h>
 #include <stdio.h>
@@ -9,14 +10,22 @@
 
 typedef union { int32_t i; uint32_t u; int64_t l; char *p; } value;
 enum kind { VOID, INT, UNSIGNED, LONG, POINTER, SHORT };
-enum op { ADD, SUBTRACT, MULTIPLY, DIVIDE, REMAINDER, LESS, GREATER, LESS_EQUAL, GREATER_EQUAL, EQUAL, NOT_EQUAL };
+enum op {
+    ADD, SUBTRACT, MULTIPLY, DIVIDE, REMAINDER,
+    LESS, GREATER, LESS_EQUAL, GREATER_EQUAL, EQUAL, NOT_EQUAL
+};
 enum right { ATOM, BINARY, TO_INT, TO_UNSIGNED, LOAD, INDEX, CALL };
 enum form { ASSIGN, STORE, RUN, IF, WHILE, BREAK, CONTINUE, RETURN, ZERO };
 enum flow { NEXT, BROKE, CONTINUED, RETURNED };
 
 typedef struct { int slot; value number; } atom; /* a local, or with slot -1 a number */
 typedef struct function function;
-typedef struct { char name[64]; int is_functions; int count; function **functions; int64_t *numbers; } array;
+typedef struct {
+    char name[64];
+    int is_functions, count;
+    function **functions;
+    int64_t *numbers;
+} array;
 typedef struct { function *f; array *a; int at; int count; atom *args; } call;
 typedef struct stmt {
     enum form form;
@@ -57,7 +66,9 @@ static void advance(void) {
 static int is(const char *word) { return !strcmp(token, word); }
 static int take(const char *word) { if (!is(word)) return 0; advance(); return 1; }
 static void want(const char *word) {
-    if (!take(word)) { fprintf(stderr, "%s wanted at byte %ld\n", word, (long)(at - text)); exit(70); }
+    if (take(word)) return;
+    fprintf(stderr, "%s wanted at byte %ld\n", word, (long)(at - text));
+    exit(70);
 }
 static enum kind take_kind(void) {
     if (take("void")) return VOID;
@@ -229,7 +240,11 @@ static void take_elements(array *a) {
     a->functions = fresh(count * sizeof *a->functions);
     a->numbers = fresh(count * sizeof *a->numbers);
     for (; a->count < count; a->count++, take(",")) {
-        if (a->is_functions) { a->functions[a->count] = function_named(token); advance(); continue; }
+        if (a->is_functions) {
+            a->functions[a->count] = function_named(token);
+            advance();
+            continue;
+        }
         int minus = take("-");
         a->numbers[a->count] = strtoll(token, 0, 10) * (minus ? -1 : 1);
         advance();
@@ -281,10 +296,14 @@ static int32_t compare(enum op op, int64_t x, int64_t y) {
 static value operate(stmt *s, value *frame) {
     value x = of(s->a, frame), y = of(s->b, frame), r = { .l = 0 };
     if (s->kind == POINTER || s->kind == LONG) {
-        if (s->op == ADD) r.l = x.l + (s->b.slot < 0 ? y.i : y.l); else r.i = compare(s->op, x.l, y.l);
+        if (s->op == ADD) r.l = x.l + (s->b.slot < 0 ? y.i : y.l);
+        else r.i = compare(s->op, x.l, y.l);
         return r;
     }
-    if (s->op >= LESS) { r.i = s->kind == UNSIGNED ? compare(s->op, x.u, y.u) : compare(s->op, x.i, y.i); return r; }
+    if (s->op >= LESS) {
+        r.i = s->kind == UNSIGNED ? compare(s->op, x.u, y.u) : compare(s->op, x.i, y.i);
+        return r;
+    }
     if (s->kind == UNSIGNED) switch (s->op) {
         case ADD: r.u = x.u + y.u; break;
         case SUBTRACT: r.u = x.u - y.u; break;
@@ -308,7 +327,10 @@ static value right_of(stmt *s, value *frame) {
     case ATOM: return of(s->a, frame);
     case BINARY: return operate(s, frame);
     case LOAD: memcpy(&r, frame[s->pointer].p + s->offset, s->kind == POINTER ? 8 : 4); return r;
-    case INDEX: r.l = s->array->numbers[s->tag ? *(uint16_t *)(frame[s->pointer].p + s->offset) : frame[s->pointer].i]; return r;
+    case INDEX:
+        r.l = s->array->numbers[s->tag ? *(uint16_t *)(frame[s->pointer].p + s->offset)
+                                       : frame[s->pointer].i];
+        return r;
     case CALL: return run(s->call, frame);
     default: r.u = frame[s->pointer].u; return r;
     }
@@ -348,7 +370,10 @@ static enum flow walk(stmt *s, value *frame, value *result) {
         case RUN: run(s->call, frame); break;
         case IF: flow = walk(of(s->a, frame).i ? s->first : s->second, frame, result); break;
         case WHILE:
-            do { step(); flow = walk(s->first, frame, result); } while (flow == NEXT || flow == CONTINUED);
+            do {
+                step();
+                flow = walk(s->first, frame, result);
+            } while (flow == NEXT || flow == CONTINUED);
             if (flow == BROKE) flow = NEXT;
             break;
         case BREAK: return BROKE;
