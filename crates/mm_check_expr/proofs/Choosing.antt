@@ -1,6 +1,8 @@
 -- Which candidate a call takes.
 use Rattle.std.proofs.Common.{◌≡◌, ℕ, zero, suc, ◌<◌, Bool, true, false, List, [], ◌∷◌, length, map, refl, sym, ap, ◌∙◌}
-use Rattle.std.specs.Prelude.{◌&&◌, Option, Some, None, Ok, slice_get, option_map}
+use Rattle.mm_base.specs.declared.code.TheConstants.Code.{S8}
+use Rattle.mm_checks.specs.Checks.{at}
+use Rattle.std.specs.Prelude.{◌&&◌, Option, Some, None, Ok, Err, slice_get, option_map}
 use Rattle.std.proofs.lemmas.Option.{slice_get-map, slice_get_within}
 use Rattle.std.proofs.lemmas.List.{length-map}
 use Rattle.mm_base.specs.declared.world.Builtin.{Builtin}
@@ -105,3 +107,8 @@ module _ (env : Environment) (es : t.Exprs) (xs : List Typed) where
 -- the member functions of a name are the functions that have the qualified one
 pub methods_are : (env : Environment) (n : Name) (r : Receiver) (class : ℕ) (x : List ℕ) → class ≡ declarer env.classes r → x ≡ qualified (name_of env.classes class) n.text → functions_of env x ≡ methods env (declarer env.classes r) n.text
 methods_are env n r class x ec ex = rw (ex, ec) refl
+
+-- no function may be called
+pub none_called : (env : Environment) (n : Name) (es : t.Exprs) (xs : List Typed) → resolved env (unbound n []) es xs ≡ Err (at S8 n.place n.text)
+unfolding best_of
+none_called env n es xs = refl

@@ -1,6 +1,6 @@
 //! What calls make, or their own fault.
 
-ghost use Rattle.std.specs.Prelude.{◌≡◌, ◌<◌, ◌^◌, [], ◌∷◌, Ok, Some, None, map, length, string_bytes, IfOk};
+ghost use Rattle.std.specs.Prelude.{◌≡◌, ◌<◌, ◌≤◌, ◌^◌, [], ◌∷◌, Ok, Some, None, map, length, string_bytes, IfOk};
 ghost use Rattle.std.specs.List.{list_any};
 ghost use Rattle.mm_classes.specs.Classes.{members_of, name_of};
 ghost use Rattle.mm_core.specs.Heads.{type_code, same_types};
@@ -306,12 +306,15 @@ fn is_the_method(member: &Member, name: &str, params: &[Ty]) -> bool
 
 // The number of the member function of this name and these parameters; if there is none, how many members there are.
 fn find_method(members: &[Member], name: &str, params: &[Ty]) -> usize
-    ensures { result ≡ method_number members.now name.now params.now }
+    ensures number { result ≡ method_number members.now name.now params.now }
+    ensures low { result ≤ length members.now }
 {
-    match members.iter().position(|member| is_the_method(member, name, params)) {
-        Some(i) => i,
-        None => members.len(),
+    for i in 0..members.len() {
+        if is_the_method(&members[i], name, params) {
+            return i;
+        }
     }
+    members.len()
 }
 
 // The members of a class. Of a number that no class has there are none.
@@ -324,6 +327,13 @@ fn members_in(graph: &Graph, class: ClassId) -> &[Member]
     } else {
         &[]
     }
+}
+
+// The class that declares the member functions.
+fn declaring_class(env: &Env, receiver: &Receiver) -> ClassId
+    ensures { result ≡ declarer env.now.classes (receiver_view receiver.now) }
+{
+    class_of_part(env.graph(), receiver.of.naming, receiver.node)
 }
 
 // Whether a member function that was chosen may be used here. The class is that of the receiver's subobject.
@@ -453,14 +463,9 @@ fn resolve_methods(
 ) -> Result<TypedExpr, CheckEnd>
     ensures { Gives typed_view result (resolved env.now (callee_view env.now (word place name.now) (Callee.Methods receiver)) (exprs_view es.now) (typeds_view args)) }
 {
-    let class = class_of_part(env.graph(), receiver.of.naming, receiver.node);
-    match qualify(alloc, class_name(env.graph(), class), name) {
-        Err(_) => Err(CheckEnd::NoMemory),
-        Ok(function) => {
-            let function = function.as_str();
-            resolve_qualified(alloc, env, receiver, class, function, place, name, es, args)
-        }
-    }
+    let class = declaring_class(env, &receiver);
+    let function = qualify(alloc, class_name(env.graph(), class), name)?;
+    resolve_qualified(alloc, env, receiver, class, function.as_str(), place, name, es, args)
 }
 
 // ---- calls

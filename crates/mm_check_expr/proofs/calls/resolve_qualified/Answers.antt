@@ -14,7 +14,7 @@ use Rattle.mm_check_expr.proofs.calls.resolve_qualified.Goals as goal
 pub take_method-requires-clause-long : goal.take_method-requires-clause-long
 take_method-requires-clause-long c =
     let won = rw (c.in-One.is, c.as_slice.ensures) at c.in_ok-i.ensures.choice in
-    function_fits c.args.env.now.classes (named c.args.function.now c.args.env.now.functions) c.args.args c.in-One.i won c.nth_named.result.now c.nth_named.ensures
+    function_fits c.args.env.now.classes (named c.args.function.now c.args.env.now.functions) c.args.args c.in-One.i won c.nth_named-head.result.now c.nth_named-head.ensures
 
 pub returns-in-One : goal.returns-in-One
 returns-in-One c =
@@ -24,10 +24,10 @@ returns-in-One c =
     let n = word c.args.place c.args.name.now in
     let r = receiver_view c.args.receiver in
     let fs = named c.args.function.now env.functions in
-    let head = c.nth_named.result.now in
+    let head = c.nth_named-head.result.now in
     let same = methods_are env n r c.args.class c.args.function.now c.requires.class c.requires.function in
     let won = rw (c.in-One.is, c.as_slice.ensures) at c.in_ok-i.ensures.best in
-    let is = resolved_one env es xs (member_callee env r.of n r.node) c.in-One.i (function head) (won ∙ ap (λ cs. best_among env cs xs) same) (ap (λ cs. slice_get cs c.in-One.i) (sym same) ∙ function_at fs c.in-One.i head c.nth_named.ensures) in
+    let is = resolved_one env es xs (member_callee env r.of n r.node) c.in-One.i (function head) (won ∙ ap (λ cs. best_among env cs xs) same) (ap (λ cs. slice_get cs c.in-One.i) (sym same) ∙ function_at fs c.in-One.i head c.nth_named-head.ensures) in
     subst (Gives typed_view c.take_method.result) (sym is) c.take_method.ensures
 
 pub returns-in-None : goal.returns-in-None
