@@ -35,7 +35,7 @@ use Rattle.mm_typing_valid.proofs.Calls.{value_is}
 signed_is : (n : ℕ) → is_int (to_int n) ≡ true
 signed_is n = grind arith
 
-field_in_is : (e : k.Expr) (s : Spot) → field_in e ≡ Some s → (f : ℕ) × (o : k.Expr) × (e ≡ k.field f o) × (field f o ≡ s)
+pub field_in_is : (e : k.Expr) (s : Spot) → field_in e ≡ Some s → (f : ℕ) × (o : k.Expr) × (e ≡ k.field f o) × (field f o ≡ s)
 field_in_is (k.field f o) s e = (f, o, refl, inside e)
 field_in_is (k.int z) s e = cc
 field_in_is (k.unsigned n) s e = cc
