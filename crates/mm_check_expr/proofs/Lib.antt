@@ -1,5 +1,4 @@
-pub mod Choosing
-pub mod Ends
+pub mod Choices
+pub mod Converting
 pub mod Given
-pub mod Loops
-pub mod Sizes
+pub mod Parts

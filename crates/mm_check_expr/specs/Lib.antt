@@ -1,2 +1,2 @@
-pub mod Callee
 pub mod Demands
+pub mod Objects
