@@ -2,3 +2,4 @@ pub mod Picking
 pub mod Up
 pub mod Finding
 pub mod Accessing
+pub mod Laws

@@ -15,7 +15,8 @@ use Rattle.mm_typing.specs.Conversions.{converted, converted_all}
 module _ (g : List Class) where
   -- one more argument
   converted-push : (ps : List Ty) (xs : List Typed) (p : Ty) (x : Typed) → length xs ≡ length ps
-      → converted_all g (ps ++ p ∷ []) (xs ++ x ∷ []) ≡ converted_all g ps xs ++ converted g p x ∷ []
+      → converted_all g (ps ++ p ∷ []) (xs ++ x ∷ [])
+        ≡ converted_all g ps xs ++ converted g p x ∷ []
   converted-push [] [] p x e = refl
   converted-push [] (y ∷ xs) p x e = absurd (omega arith)
   converted-push (q ∷ ps) [] p x e = absurd (omega arith)

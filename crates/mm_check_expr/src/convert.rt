@@ -1,8 +1,6 @@
 //! Conversions, and the faults of operands.
 
 ghost use Rattle.std.specs.Prelude.{◌≡◌, Ok, Err, map, length, option_map};
-ghost use Rattle.mm_answers.specs.Up.{up_of};
-ghost use Rattle.mm_answers.specs.Accessing.{base_is_accessible};
 ghost use Rattle.mm_core.specs.View.{expr_view as core_view};
 ghost use Rattle.mm_syntax.specs.View.{expr_view};
 ghost use Rattle.mm_syntax.specs.First.{place_of};
@@ -14,6 +12,8 @@ ghost use Rattle.mm_check_expr.specs.Demands.{both_demanded};
 ghost use Rattle.mm_check_expr.specs.Objects.{step_view};
 
 use crate::types::{is_convertible, is_same, is_zero_kind};
+use mm_answers::may::base_may;
+use mm_answers::up::up;
 use mm_base::code::Code;
 use mm_base::place::Place;
 use mm_base::text::Text;
@@ -87,7 +87,8 @@ pub(crate) fn start_of(e: &Expr) -> Place
     e.place
 }
 
-/// That a typed expression converts to a type; the text of its first token is looked for where it doesn't.
+/// That a typed expression converts to a type. The text of its first token is looked for only
+/// where it doesn't.
 pub(crate) fn need_converts(
     alloc: Global,
     graph: &Graph,
@@ -95,7 +96,8 @@ pub(crate) fn need_converts(
     to: &Ty,
     e: &Expr,
 ) -> Result<(), CheckEnd>
-    ensures { Gives (λ u. u) result (demand (converts graph.now (typed_view x.now) to.now) (unconverted (expr_view e.now))) }
+    ensures { Gives (λ u. u) result (demand (converts graph.now (typed_view x.now) to.now)
+        (unconverted (expr_view e.now))) }
 {
     if is_convertible(graph, x, to) {
         return Ok(());
@@ -149,25 +151,12 @@ pub(crate) fn node_of(up: Up) -> NodeId
     }
 }
 
-/// The subobject of class `base`.
-pub(crate) fn base_in(graph: &Graph, derived: ClassId, base: ClassId) -> Up
-    ensures { result ≡ up_of graph.now derived base }
-{
-    Up::None
-}
-
-fn is_accessible(graph: &Graph, from: Context, derived: ClassId, node: NodeId) -> bool
-    ensures { result ≡ base_is_accessible graph.now from.class derived node }
-{
-    false
-}
-
 fn is_single_base(graph: &Graph, step: &Option<Step>) -> bool
     ensures { result ≡ is_single graph.now (option_map step_view step.now) }
 {
     match step {
         None => true,
-        Some(step) => is_one_up(base_in(graph, step.derived, step.base)),
+        Some(step) => is_one_up(up(graph, step.derived, step.base)),
     }
 }
 
@@ -177,8 +166,8 @@ fn is_usable_base(graph: &Graph, from: Context, step: &Option<Step>) -> bool
     match step {
         None => true,
         Some(step) => {
-            let node = node_of(base_in(graph, step.derived, step.base));
-            is_accessible(graph, from, step.derived, node)
+            let node = node_of(up(graph, step.derived, step.base));
+            base_may(graph, from, step.derived, node)
         }
     }
 }
@@ -210,7 +199,8 @@ pub(crate) fn need_base(
     e: &Expr,
     x: &TypedExpr,
 ) -> Result<(), CheckEnd>
-    ensures { Gives (λ u. u) result (base_fits env.now to.now (expr_view e.now) (typed_view x.now)) }
+    ensures { Gives (λ u. u) result (base_fits env.now to.now (expr_view e.now)
+        (typed_view x.now)) }
 {
     let step = find_step(&x.ty, to);
     if step.is_none() {
@@ -227,13 +217,14 @@ fn at_base(
     step: Option<Step>,
     core: CoreExpr,
 ) -> Result<CoreExpr, CheckEnd>
-    ensures { Gives core_view result (Ok (base_of graph.now (option_map step_view step) (core_view core))) }
+    ensures { Gives core_view result (Ok (base_of graph.now (option_map step_view step)
+        (core_view core))) }
 {
     match step {
         None => Ok(core),
         Some(step) => {
             let class = step.derived;
-            let node = node_of(base_in(graph, class, step.base));
+            let node = node_of(up(graph, class, step.base));
             Ok(CoreExpr::Move(Move { class, node }, Boxed::new(alloc, core)?))
         }
     }
@@ -308,7 +299,8 @@ pub(crate) fn convert_all(
     mut args: Items<TypedExpr>,
 ) -> Result<Items<CoreExpr>, CheckEnd>
     requires { length args ≡ length params.now }
-    ensures { Gives (map core_view) result (Ok (converted_all graph.now params.now (typeds_view args))) }
+    ensures { Gives (map core_view) result (Ok (converted_all graph.now params.now
+        (typeds_view args))) }
 {
     match params {
         [] => Ok(Items::new(alloc)),
@@ -323,8 +315,8 @@ pub(crate) fn convert_all(
     }
 }
 
-/// A typed value that is to become a type: the tree with its conversion; or the fault of a missing one, or of the base to
-/// which it goes, at the expression's first token.
+/// A typed value that is to become a type: the tree with its conversion; or the fault of a missing
+/// one, or of the base to which it goes, at the expression's first token.
 pub fn as_type(
     alloc: Global,
     env: &Env,

@@ -1,7 +1,6 @@
 //! The check of expressions.
 #![tactic(auto, using(crate::proofs::Given::rules_of_trees))]
 
-pub(crate) mod answers;
 pub(crate) mod calls;
 pub mod check;
 pub mod convert;

@@ -18,7 +18,8 @@ ghost use Rattle.mm_check_expr.specs.Meanings.{callee_view, maybe_callee_view, m
 
 use crate::convert::{refuse, start_of, want_class};
 use crate::objects::{Object, find_base, find_object, make_field, this_object};
-use crate::answers::{find, may};
+use mm_answers::find::find;
+use mm_answers::may::may;
 use mm_base::code::Code;
 use mm_base::place::Place;
 use mm_base::text::Text;

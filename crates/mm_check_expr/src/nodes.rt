@@ -6,14 +6,14 @@ ghost use Rattle.mm_core.specs.View.{expr_view as core_view};
 ghost use Rattle.mm_core.specs.Tree.{bool};
 ghost use Rattle.mm_syntax.specs.View.{expr_view};
 ghost use Rattle.mm_checks.specs.Checks.{Gives, at, demand, wanted};
-ghost use Rattle.mm_check_expr.specs.Demands.{demanded, two_demanded};
+ghost use Rattle.mm_check_expr.specs.Demands.{demanded, both_demanded, two_demanded, operation_type, choice_type};
 ghost use Rattle.mm_check_expr.specs.Objects.{spot_view};
 ghost use Rattle.mm_base.specs.declared.code.TheConstants.Code.{S12};
 ghost use Rattle.mm_typing.specs.Typed as spec;
 ghost use Rattle.mm_typing.specs.Typed.{typed, typed_view, number_typed};
 ghost use Rattle.mm_core.specs.Valid.{is_arithmetic};
-ghost use Rattle.mm_typing.specs.Conversions.{converts, unconverted};
-ghost use Rattle.mm_typing.specs.Operators.{wrong_unary, operated, plus, minus, negated, both_of, either_of, chosen, kind_of_both, set, set_at, changed, changed_at, stepped, stepped_at, one, zero_of, own_change, own_unary, own_step, own_operation, own_choose, own_set, own_assign};
+ghost use Rattle.mm_typing.specs.Conversions.{unconverted};
+ghost use Rattle.mm_typing.specs.Operators.{wrong_unary, operated, plus, minus, negated, both_of, either_of, chosen, kind_of_both, set, set_at, changed, changed_at, stepped, stepped_at, one, zero_of, own_change, own_unary, own_step, own_operation, own_choose, own_set, own_assign, test};
 
 use crate::convert::{convert, convert_boxed, need_base, need_converts, want_type};
 use crate::objects::{make_address, make_followed};
@@ -114,7 +114,8 @@ fn find_spot(x: TypedExpr) -> Option<Spot>
 }
 
 fn want_spot(alloc: Global, x: TypedExpr, place: Place, text: &str) -> Result<Spot, CheckEnd>
-    ensures { Gives spot_view result (wanted (spec.spot_of (typed_view x)) (at S12 place text.now)) }
+    ensures { Gives spot_view result (wanted (spec.spot_of (typed_view x))
+        (at S12 place text.now)) }
 {
     if let Some(spot) = find_spot(x) {
         return Ok(spot);
@@ -133,7 +134,8 @@ fn operate(
     x: TypedExpr,
     y: TypedExpr,
 ) -> Result<TypedExpr, CheckEnd>
-    ensures { Gives typed_view result (Ok (operated graph.now op to.now (typed_view x) (typed_view y))) }
+    ensures { Gives typed_view result (Ok (operated graph.now op to.now (typed_view x)
+        (typed_view y))) }
 {
     let left = convert_boxed(alloc, graph, x, to)?;
     let right = convert_boxed(alloc, graph, y, to)?;
@@ -216,7 +218,8 @@ fn make_chosen(
     x: TypedExpr,
     y: TypedExpr,
 ) -> Result<TypedExpr, CheckEnd>
-    ensures { Gives typed_view result (Ok (chosen graph.now to.now (typed_view c) (typed_view x) (typed_view y))) }
+    ensures { Gives typed_view result (Ok (chosen graph.now to.now (typed_view c) (typed_view x)
+        (typed_view y))) }
 {
     let kind = joined_kind(x.kind, y.kind);
     let test = convert_boxed(alloc, graph, c, &Ty::Bool)?;
@@ -260,7 +263,8 @@ fn change_local(
     ty: &Ty,
     y: TypedExpr,
 ) -> Result<CoreExpr, CheckEnd>
-    ensures { Gives core_view result (Ok (changed_at graph.now op (spec.variable local) ty.now (typed_view y))) }
+    ensures { Gives core_view result (Ok (changed_at graph.now op (spec.variable local) ty.now
+        (typed_view y))) }
 {
     let old = value(CoreExpr::Local(local), *ty);
     let both = common_type(ty, &y.ty);
@@ -276,7 +280,8 @@ fn make_changed(
     ty: &Ty,
     y: TypedExpr,
 ) -> Result<TypedExpr, CheckEnd>
-    ensures { Gives typed_view result (Ok (changed graph.now op (spot_view spot) ty.now (typed_view y))) }
+    ensures { Gives typed_view result (Ok (changed graph.now op (spot_view spot) ty.now
+        (typed_view y))) }
 {
     match spot {
         Spot::Variable(local) => {
@@ -316,7 +321,8 @@ fn make_change(
     x: TypedExpr,
     y: TypedExpr,
 ) -> Result<TypedExpr, CheckEnd>
-    ensures { Gives typed_view result (own_change graph.now op (at S12 place text.now) (typed_view x) (typed_view y)) }
+    ensures { Gives typed_view result (own_change graph.now op (at S12 place text.now)
+        (typed_view x) (typed_view y)) }
 {
     let ty = x.ty;
     let spot = want_spot(alloc, x, place, text)?;
@@ -331,7 +337,8 @@ fn need_plus(
     place: Place,
     x: TypedExpr,
 ) -> Result<TypedExpr, CheckEnd>
-    ensures { Gives typed_view result (demanded (is_arithmetic x.ty) (wrong_unary UnaryOperator.Plus place) (plus graph.now (typed_view x))) }
+    ensures { Gives typed_view result (demanded (is_arithmetic x.ty)
+        (wrong_unary UnaryOperator.Plus place) (plus graph.now (typed_view x))) }
 {
     need(alloc, is_arithmetic_type(&x.ty), Code::S12, place, "+")?;
     make_plus(alloc, graph, x)
@@ -343,14 +350,16 @@ fn need_minus(
     place: Place,
     x: TypedExpr,
 ) -> Result<TypedExpr, CheckEnd>
-    ensures { Gives typed_view result (demanded (is_arithmetic x.ty) (wrong_unary UnaryOperator.Minus place) (minus graph.now (typed_view x))) }
+    ensures { Gives typed_view result (demanded (is_arithmetic x.ty)
+        (wrong_unary UnaryOperator.Minus place) (minus graph.now (typed_view x))) }
 {
     need(alloc, is_arithmetic_type(&x.ty), Code::S12, place, "-")?;
     make_minus(alloc, graph, x)
 }
 
 fn need_not(alloc: Global, graph: &Graph, a: &Expr, x: TypedExpr) -> Result<TypedExpr, CheckEnd>
-    ensures { Gives typed_view result (demanded (converts graph.now (typed_view x) Ty.Bool) (unconverted (expr_view a.now)) (negated graph.now (typed_view x))) }
+    ensures { Gives typed_view result (demanded (test graph.now (typed_view x))
+        (unconverted (expr_view a.now)) (negated graph.now (typed_view x))) }
 {
     need_converts(alloc, graph, &x, &Ty::Bool, a)?;
     make_not(alloc, graph, x)
@@ -364,7 +373,8 @@ pub(crate) fn make_unary(
     a: &Expr,
     x: TypedExpr,
 ) -> Result<TypedExpr, CheckEnd>
-    ensures { Gives typed_view result (own_unary graph.now op place (expr_view a.now) (typed_view x)) }
+    ensures { Gives typed_view result (own_unary graph.now op place (expr_view a.now)
+        (typed_view x)) }
 {
     match op {
         UnaryOperator::Plus => need_plus(alloc, graph, place, x),
@@ -396,6 +406,23 @@ pub(crate) fn make_step(
     Ok(make_stepped(change(op), spot, &ty))
 }
 
+// Both operands of `&&` or `||`.
+fn need_tests(
+    alloc: Global,
+    graph: &Graph,
+    a: &Expr,
+    b: &Expr,
+    x: &TypedExpr,
+    y: &TypedExpr,
+) -> Result<(), CheckEnd>
+    ensures { Gives (λ u. u) result (both_demanded
+        (test graph.now (typed_view x.now)) (unconverted (expr_view a.now))
+        (test graph.now (typed_view y.now)) (unconverted (expr_view b.now))) }
+{
+    need_converts(alloc, graph, x, &Ty::Bool, a)?;
+    need_converts(alloc, graph, y, &Ty::Bool, b)
+}
+
 fn need_both(
     alloc: Global,
     graph: &Graph,
@@ -404,10 +431,12 @@ fn need_both(
     x: TypedExpr,
     y: TypedExpr,
 ) -> Result<TypedExpr, CheckEnd>
-    ensures { Gives typed_view result (two_demanded (converts graph.now (typed_view x) Ty.Bool) (unconverted (expr_view a.now)) (converts graph.now (typed_view y) Ty.Bool) (unconverted (expr_view b.now)) (both_of graph.now (typed_view x) (typed_view y))) }
+    ensures { Gives typed_view result (two_demanded
+        (test graph.now (typed_view x)) (unconverted (expr_view a.now))
+        (test graph.now (typed_view y)) (unconverted (expr_view b.now))
+        (both_of graph.now (typed_view x) (typed_view y))) }
 {
-    need_converts(alloc, graph, &x, &Ty::Bool, a)?;
-    need_converts(alloc, graph, &y, &Ty::Bool, b)?;
+    need_tests(alloc, graph, a, b, &x, &y)?;
     make_both(alloc, graph, x, y)
 }
 
@@ -419,14 +448,38 @@ fn need_either(
     x: TypedExpr,
     y: TypedExpr,
 ) -> Result<TypedExpr, CheckEnd>
-    ensures { Gives typed_view result (two_demanded (converts graph.now (typed_view x) Ty.Bool) (unconverted (expr_view a.now)) (converts graph.now (typed_view y) Ty.Bool) (unconverted (expr_view b.now)) (either_of graph.now (typed_view x) (typed_view y))) }
+    ensures { Gives typed_view result (two_demanded
+        (test graph.now (typed_view x)) (unconverted (expr_view a.now))
+        (test graph.now (typed_view y)) (unconverted (expr_view b.now))
+        (either_of graph.now (typed_view x) (typed_view y))) }
 {
-    need_converts(alloc, graph, &x, &Ty::Bool, a)?;
-    need_converts(alloc, graph, &y, &Ty::Bool, b)?;
+    need_tests(alloc, graph, a, b, &x, &y)?;
     make_either(alloc, graph, x, y)
 }
 
-fn need_operands(
+// The type in which an operator works, and all that is asked of both operands.
+fn need_operation(
+    alloc: Global,
+    env: &Env,
+    op: Operator,
+    place: Place,
+    text: &str,
+    a: &Expr,
+    b: &Expr,
+    x: &TypedExpr,
+    y: &TypedExpr,
+) -> Result<Ty, CheckEnd>
+    ensures { Gives (λ t. t) result (operation_type env.now op (at S12 place text.now)
+        (expr_view a.now) (expr_view b.now) (typed_view x.now) (typed_view y.now)) }
+{
+    let found = find_operand_type(env.graph(), op, x, y);
+    let to = want_type(alloc, found, Code::S12, place, text)?;
+    need_base(alloc, env, &to, a, x)?;
+    need_base(alloc, env, &to, b, y)?;
+    Ok(to)
+}
+
+fn make_operated(
     alloc: Global,
     env: &Env,
     op: Operator,
@@ -437,12 +490,11 @@ fn need_operands(
     x: TypedExpr,
     y: TypedExpr,
 ) -> Result<TypedExpr, CheckEnd>
-    ensures { Gives typed_view result (own_operation env.now (Operation.Two op) (at S12 place text.now) (expr_view a.now) (expr_view b.now) (typed_view x) (typed_view y)) }
+    ensures { Gives typed_view result (own_operation env.now (Operation.Two op)
+        (at S12 place text.now) (expr_view a.now) (expr_view b.now)
+        (typed_view x) (typed_view y)) }
 {
-    let found = find_operand_type(env.graph(), op, &x, &y);
-    let to = want_type(alloc, found, Code::S12, place, text)?;
-    need_base(alloc, env, &to, a, &x)?;
-    need_base(alloc, env, &to, b, &y)?;
+    let to = need_operation(alloc, env, op, place, text, a, b, &x, &y)?;
     operate(alloc, env.graph(), op, &to, x, y)
 }
 
@@ -457,13 +509,38 @@ pub(crate) fn make_operation(
     x: TypedExpr,
     y: TypedExpr,
 ) -> Result<TypedExpr, CheckEnd>
-    ensures { Gives typed_view result (own_operation env.now op (at S12 place text.now) (expr_view a.now) (expr_view b.now) (typed_view x) (typed_view y)) }
+    ensures { Gives typed_view result (own_operation env.now op (at S12 place text.now)
+        (expr_view a.now) (expr_view b.now) (typed_view x) (typed_view y)) }
 {
     match op {
         Operation::And => need_both(alloc, env.graph(), a, b, x, y),
         Operation::Or => need_either(alloc, env.graph(), a, b, x, y),
-        Operation::Two(op) => need_operands(alloc, env, op, place, text, a, b, x, y),
+        Operation::Two(op) => make_operated(alloc, env, op, place, text, a, b, x, y),
     }
+}
+
+// The type of both branches, and all that is asked of the operands.
+fn need_choice(
+    alloc: Global,
+    env: &Env,
+    place: Place,
+    c: &Expr,
+    a: &Expr,
+    b: &Expr,
+    d: &TypedExpr,
+    x: &TypedExpr,
+    y: &TypedExpr,
+) -> Result<Ty, CheckEnd>
+    ensures { Gives (λ t. t) result (choice_type env.now place (expr_view c.now)
+        (expr_view a.now) (expr_view b.now)
+        (typed_view d.now) (typed_view x.now) (typed_view y.now)) }
+{
+    need_converts(alloc, env.graph(), d, &Ty::Bool, c)?;
+    let found = find_branch_type(env.graph(), x, y);
+    let to = want_type(alloc, found, Code::S12, place, "?")?;
+    need_base(alloc, env, &to, a, x)?;
+    need_base(alloc, env, &to, b, y)?;
+    Ok(to)
 }
 
 pub(crate) fn make_choose(
@@ -477,13 +554,10 @@ pub(crate) fn make_choose(
     x: TypedExpr,
     y: TypedExpr,
 ) -> Result<TypedExpr, CheckEnd>
-    ensures { Gives typed_view result (own_choose env.now place (expr_view c.now) (expr_view a.now) (expr_view b.now) (typed_view d) (typed_view x) (typed_view y)) }
+    ensures { Gives typed_view result (own_choose env.now place (expr_view c.now) (expr_view a.now)
+        (expr_view b.now) (typed_view d) (typed_view x) (typed_view y)) }
 {
-    need_converts(alloc, env.graph(), &d, &Ty::Bool, c)?;
-    let found = find_branch_type(env.graph(), &x, &y);
-    let to = want_type(alloc, found, Code::S12, place, "?")?;
-    need_base(alloc, env, &to, a, &x)?;
-    need_base(alloc, env, &to, b, &y)?;
+    let to = need_choice(alloc, env, place, c, a, b, &d, &x, &y)?;
     make_chosen(alloc, env.graph(), &to, d, x, y)
 }
 
@@ -496,7 +570,8 @@ fn make_assigned(
     x: TypedExpr,
     y: TypedExpr,
 ) -> Result<TypedExpr, CheckEnd>
-    ensures { Gives typed_view result (own_set env.now (at S12 place text.now) (expr_view b.now) (typed_view x) (typed_view y)) }
+    ensures { Gives typed_view result (own_set env.now (at S12 place text.now) (expr_view b.now)
+        (typed_view x) (typed_view y)) }
 {
     let ty = x.ty;
     let spot = want_spot(alloc, x, place, text)?;
@@ -515,7 +590,8 @@ pub(crate) fn make_assign(
     x: TypedExpr,
     y: TypedExpr,
 ) -> Result<TypedExpr, CheckEnd>
-    ensures { Gives typed_view result (own_assign env.now op (at S12 place text.now) (expr_view b.now) (typed_view x) (typed_view y)) }
+    ensures { Gives typed_view result (own_assign env.now op (at S12 place text.now)
+        (expr_view b.now) (typed_view x) (typed_view y)) }
 {
     match op {
         Assignment::Set => make_assigned(alloc, env, place, text, b, x, y),

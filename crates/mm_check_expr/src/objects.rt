@@ -8,7 +8,6 @@ ghost use Rattle.mm_classes.specs.Subobjects.{end_of};
 ghost use Rattle.mm_classes.specs.Questions.{node as node_at};
 ghost use Rattle.mm_core.specs.Heads.{field_type};
 ghost use Rattle.mm_core.specs.View.{expr_view as core_view};
-ghost use Rattle.mm_overload.specs.Rank.{is_base};
 ghost use Rattle.mm_syntax.specs.Tree.{no_exprs};
 ghost use Rattle.mm_syntax.specs.View.{expr_view};
 ghost use Rattle.mm_checks.specs.Checks.{Gives, at, demand};
@@ -17,14 +16,17 @@ ghost use Rattle.mm_typing.specs.Typed.{typed_view};
 ghost use Rattle.mm_typing.specs.Objects as spec;
 ghost use Rattle.mm_check_expr.specs.Objects.{object_view};
 
-use crate::convert::{base_in, is_one_up, node_of, start_of, want_class};
+use crate::convert::{is_one_up, node_of, start_of, want_class};
 use crate::types::{is_object_kind, pointed_class, referred_class, selected_class};
+use mm_answers::may::class_in;
+use mm_answers::up::up;
 use mm_base::code::Code;
 use mm_base::place::Place;
 use mm_checks::{CheckEnd, need};
 use mm_classes::class::{MemberKind, Ty};
 use mm_classes::id::{ClassId, NodeId};
 use mm_core::tree::{CoreExpr, Move};
+use mm_overload::ranks::is_base_of;
 use mm_paths::graph::Graph;
 use mm_syntax::expr::Expr;
 use mm_syntax::name::{MemberOperator, Name};
@@ -32,7 +34,8 @@ use mm_typing::typed::{Kind, TypedExpr};
 use sqlite_items::Boxed;
 use std::alloc::Global;
 
-/// An object in which a name is looked up: its tree, the class that names the member, and the class of the whole object.
+/// An object in which a name is looked up: its tree, the class that names the member, and the class
+/// of the whole object.
 #[derive(Drop)]
 pub(crate) struct Object {
     pub tree: CoreExpr,
@@ -46,7 +49,10 @@ pub(crate) struct Object {
 pub(crate) fn class_of_part(graph: &Graph, class: ClassId, node: NodeId) -> ClassId
     ensures { result ≡ end_of (node_at graph.now class node) }
 {
-    ClassId { number: 0 }
+    match class_in(graph, class, node) {
+        Some(part) => part,
+        None => ClassId { number: 0 },
+    }
 }
 
 fn is_complete_class(graph: &Graph, c: ClassId) -> bool
@@ -63,12 +69,6 @@ pub(crate) fn find_complete(graph: &Graph, name: &str) -> Option<ClassId>
         Some(class) if is_complete_class(graph, class) => Some(class),
         _ => None,
     }
-}
-
-fn is_base_of(graph: &Graph, c: ClassId, b: ClassId) -> bool
-    ensures { result ≡ is_base graph.now c b }
-{
-    false
 }
 
 // The class of a name, where it is this one or a base of it.
@@ -122,7 +122,8 @@ fn shown(core: CoreExpr, ty: Ty) -> TypedExpr
 
 // That a class is complete, at the first token of the expression of its type.
 fn need_complete(alloc: Global, graph: &Graph, c: ClassId, a: &Expr) -> Result<(), CheckEnd>
-    ensures { Gives (λ u. u) result (demand (spec.is_complete graph.now c) (spec.incomplete (expr_view a.now))) }
+    ensures { Gives (λ u. u) result (demand (spec.is_complete graph.now c)
+        (spec.incomplete (expr_view a.now))) }
 {
     if is_complete_class(graph, c) {
         return Ok(());
@@ -139,7 +140,8 @@ pub(crate) fn make_followed(
     a: &Expr,
     x: TypedExpr,
 ) -> Result<TypedExpr, CheckEnd>
-    ensures { Gives typed_view result (spec.own_follow graph.now (at S12 place text.now) (expr_view a.now) (typed_view x)) }
+    ensures { Gives typed_view result (spec.own_follow graph.now (at S12 place text.now)
+        (expr_view a.now) (typed_view x)) }
 {
     let class = want_class(alloc, pointed_class(&x.ty), Code::S12, place, text)?;
     need_complete(alloc, graph, class, a)?;
@@ -163,7 +165,8 @@ pub(crate) fn make_address(
 /// `new` of the class of a name.
 pub(crate) fn make_new(alloc: Global, graph: &Graph, class: &Name) -> Result<TypedExpr, CheckEnd>
     ensures new { Gives typed_view result (spec.own_new graph.now class.now) }
-    ensures make { (p : Place) → Gives typed_view result (spec.own_make graph.now p class.now no_exprs) }
+    ensures make { (p : Place) → Gives typed_view result
+        (spec.own_make graph.now p class.now no_exprs) }
 {
     let found = find_complete(graph, class.text.as_str());
     let class = want_class(alloc, found, Code::S3, class.place, class.text.as_str())?;
@@ -208,7 +211,8 @@ pub(crate) fn find_object(
     a: &Expr,
     x: TypedExpr,
 ) -> Result<Object, CheckEnd>
-    ensures { Gives object_view result (spec.own_object graph.now op place (expr_view a.now) (typed_view x)) }
+    ensures { Gives object_view result (spec.own_object graph.now op place (expr_view a.now)
+        (typed_view x)) }
 {
     let found = selected_class(op, &x.ty);
     let class = want_class(alloc, found, Code::S12, place, op.spelling())?;
@@ -229,7 +233,7 @@ fn as_base(
 ) -> Result<Object, CheckEnd>
     ensures { Gives object_view result (Ok (spec.as_base graph.now (object_view object) base)) }
 {
-    let node = node_of(base_in(graph, object.naming, base));
+    let node = node_of(up(graph, object.naming, base));
     let tree = make_moved(alloc, object.naming, node, object.tree)?;
     Ok(Object {
         tree,
@@ -247,14 +251,15 @@ pub(crate) fn find_base(
     object: Object,
     class: Option<&Name>,
 ) -> Result<Object, CheckEnd>
-    ensures { Gives object_view result (spec.own_base graph.now place text.now (object_view object) (option_copied class.entry)) }
+    ensures { Gives object_view result (spec.own_base graph.now place text.now
+        (object_view object) (option_copied class.entry)) }
 {
     match class {
         None => Ok(object),
         Some(class) => {
             let found = find_base_named(graph, object.naming, class.text.as_str());
             let base = want_class(alloc, found, Code::S10, place, text)?;
-            let single = is_one_up(base_in(graph, object.naming, base));
+            let single = is_one_up(up(graph, object.naming, base));
             need(alloc, single, Code::S11, place, text)?;
             as_base(alloc, graph, object, base)
         }
@@ -263,7 +268,8 @@ pub(crate) fn find_base(
 
 // ---- fields
 
-// The type of a field, by its number among the members of a class. Of a number that no field has it is `void`.
+// The type of a field, by its number among the members of a class. Of a number that no field has it
+// is `void`.
 fn type_of_field(graph: &Graph, class: ClassId, member: u32) -> Ty
     ensures { result ≡ field_type graph.now class member }
 {
@@ -287,7 +293,8 @@ pub(crate) fn make_field(
     node: NodeId,
     member: u32,
 ) -> Result<TypedExpr, CheckEnd>
-    ensures { Gives typed_view result (Ok (spec.field_typed graph.now (object_view object) node member)) }
+    ensures { Gives typed_view result (Ok (spec.field_typed graph.now (object_view object) node
+        member)) }
 {
     let class = class_of_part(graph, object.naming, node);
     let tree = make_moved(alloc, object.naming, node, object.tree)?;

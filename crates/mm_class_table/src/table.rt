@@ -152,7 +152,8 @@ impl ClassTable {
     /// The class that is declared by this name, or none.
     pub fn find(&self, name: &str) -> Option<ClassId>
         ensures number { result ≡ number_of self.now name.now }
-        ensures here { IfSome result (λ c. (c < length self.now) × (name_of self.now c ≡ name.now)) }
+        ensures here { IfSome result
+            (λ c. (c < length self.now) × (name_of self.now c ≡ name.now)) }
     {
         let number = self.names.get_index_of(name)?;
         Some(ClassId {

@@ -21,9 +21,10 @@ use mm_paths::graph::Graph;
 use std::alloc::{AllocError, Global};
 use std::marker::Model;
 
-/// What is visible where an expression stands. To a contract it is an `Environment`. Each call on variables and functions but
-/// `leave`, `params` and `nth` takes about constant time, whatever is declared; `leave` takes about that for each variable.
-/// The class from whose member functions members are used is complete.
+/// What is visible where an expression stands. To a contract it is an `Environment`. Each call on
+/// variables and functions but `leave`, `params` and `nth` takes about constant time, whatever is
+/// declared; `leave` takes about that for each variable. The class from whose member functions
+/// members are used is complete.
 #[derive(Drop)]
 pub struct Env {
     graph: Graph,
@@ -85,17 +86,21 @@ impl Env {
     /// The class that is declared by this name, or none.
     pub fn find_class(&self, name: &str) -> Option<ClassId>
         ensures number { result ≡ number_of self.now.classes name.now }
-        ensures here { IfSome result (λ c. (c < length self.now.classes) × (name_of self.now.classes c ≡ name.now)) }
+        ensures here { IfSome result
+            (λ c. (c < length self.now.classes) × (name_of self.now.classes c ≡ name.now)) }
     {
         self.graph.table().find(name)
     }
 
-    /// The number of a class's name: its own where it is declared already, and else that of a new class.
+    /// The number of a class's name: its own where it is declared already, and else that of a new
+    /// class.
     pub fn declare_class(&mut self, name: &str) -> Result<ClassId, NoMemory>
         requires { length self.old.classes < 2 ^ 32 - 1 }
         ensures named { IfOk result (λ c. IsNamed c self.old.classes name.now) }
-        ensures here { OnOk result (IfOk result (λ c. (c < length self.new.classes) × (name_of self.new.classes c ≡ name.now))) }
-        ensures ok { OnOk result (IfOk result (λ c. self.new ≡ record self.old { classes = declared c self.old.classes name.now })) }
+        ensures here { OnOk result (IfOk result
+            (λ c. (c < length self.new.classes) × (name_of self.new.classes c ≡ name.now))) }
+        ensures ok { OnOk result (IfOk result
+            (λ c. self.new ≡ record self.old { classes = declared c self.old.classes name.now })) }
         ensures err { OnErr result (self.new ≡ self.old) }
     {
         self.graph.declare(name)
@@ -113,11 +118,13 @@ impl Env {
         requires declared { AreDeclared self.old.classes bases.now }
         requires members { IsMemberList members.now }
         requires typed { AreTyped (length self.old.classes) members.now }
-        ensures ok { OnOk result (self.new ≡ record self.old { classes = added self.old.classes class bases.now members.now }) }
+        ensures ok { OnOk result (self.new
+            ≡ record self.old { classes = added self.old.classes class bases.now members.now }) }
         ensures fine { OnOk result (AreFine self.old.classes bases.now) }
         ensures few { OnOk result (length (subobjects_of self.new.classes class) ≤ 256) }
         ensures fields { OnOk result (field_count members.now ≤ 2 ^ 19) }
-        ensures ends { IfErr result (λ end. Ends self.old.classes class bases.now members.now end) }
+        ensures ends { IfErr result
+            (λ end. Ends self.old.classes class bases.now members.now end) }
         ensures err { OnErr result (self.new ≡ self.old) }
     {
         self.graph.add(class, bases, members)
