@@ -13,6 +13,7 @@ use mm_c_placed::tree::{Local, Operand};
 use std::alloc::AllocError;
 
 /// What an operand is in the frame at a base.
+#[inline(always)]
 pub fn read(values: &[CValue], base: usize, a: Operand) -> CValue
     requires { IsInOperand (length (drop base values.now)) a }
     ensures { result ≡ operand_of (start (drop base values.now)) a }
@@ -40,6 +41,7 @@ pub fn push_operands(
 }
 
 /// Puts what operands are behind all values, as parameters of these kinds receive them.
+#[inline]
 pub fn push_given(
     values: &mut Vec<CValue>,
     base: usize,
@@ -58,6 +60,7 @@ pub fn push_given(
 }
 
 /// Puts zeros behind all values, up to a length.
+#[inline]
 pub fn fill(values: &mut Vec<CValue>, len: usize) -> Result<(), AllocError>
     ensures { OnOk result (values.new.items ≡ values.old.items ++ replicate (len - length values.old.items) (Int (pos 0))) }
 {
@@ -68,6 +71,7 @@ pub fn fill(values: &mut Vec<CValue>, len: usize) -> Result<(), AllocError>
 }
 
 /// Locals of the frame at a base are zero or null.
+#[inline]
 pub fn clear(values: &mut Vec<CValue>, base: usize, xs: &[Local])
     requires { AreIn (length (drop base values.old.items)) xs.now }
     ensures frame { drop base values.new.items ≡ with_zeros xs.now (drop base values.old.items) }
