@@ -1,6 +1,6 @@
 // Frames, one behind another on a list of values. A frame is what stands from its base on.
 
-ghost use Rattle.std.specs.Prelude.{◌≡◌, ℕ, ◌+◌, ◌-◌, ◌<◌, ◌≤◌, pos, List, [], ◌∷◌, ◌++◌, length, map, drop, take, replicate, All, OnOk};
+ghost use Rattle.std.specs.Prelude.{◌≡◌, ℕ, ◌+◌, ◌-◌, ◌<◌, ◌≤◌, pos, List, [], ◌∷◌, ◌++◌, length, map, drop, take, replicate, All, OnOk, set};
 ghost use Rattle.mm_c.specs.declared.value.CValue.TheVariants.{Int};
 ghost use Rattle.mm_c_placed.specs.Meaning.{operand_of, start};
 ghost use Rattle.mm_c_placed.specs.Ready.{IsInOperand, AreIn};
@@ -11,6 +11,22 @@ use mm_c::value::CValue;
 use mm_c_memory::operate;
 use mm_c_placed::tree::{Local, Operand};
 use std::alloc::AllocError;
+
+/// A place holds a value from now on. Each variant is written on its own, so that the bytes that a
+/// value doesn't use stay where they are: a read right behind it then need not wait for them.
+#[inline(always)]
+pub fn put(values: &mut Vec<CValue>, at: usize, value: CValue)
+    requires { at < length values.old.items }
+    ensures { values.new.items ≡ set values.old.items at value }
+{
+    match value {
+        CValue::Int(number) => values[at] = CValue::Int(number),
+        CValue::Unsigned(number) => values[at] = CValue::Unsigned(number),
+        CValue::Long(number) => values[at] = CValue::Long(number),
+        CValue::Null => values[at] = CValue::Null,
+        CValue::At(block, offset) => values[at] = CValue::At(block, offset),
+    }
+}
 
 /// What an operand is in the frame at a base.
 #[inline(always)]
@@ -54,7 +70,8 @@ pub fn push_given(
 {
     for i in 0..args.len() {
         let v = read(values.as_slice(), base, args[i]);
-        values.push(operate::fitted(params[i], v))?;
+        values.reserve(1)?;
+        values.push_reserved(operate::fitted(params[i], v));
     }
     Ok(())
 }
@@ -64,10 +81,10 @@ pub fn push_given(
 pub fn fill(values: &mut Vec<CValue>, len: usize) -> Result<(), AllocError>
     ensures { OnOk result (values.new.items ≡ values.old.items ++ replicate (len - length values.old.items) (Int (pos 0))) }
 {
-    while values.len() < len {
-        values.push(CValue::Int(0))?;
+    if len <= values.len() {
+        return Ok(());
     }
-    Ok(())
+    values.resize(len, CValue::Int(0))
 }
 
 /// Locals of the frame at a base are zero or null.

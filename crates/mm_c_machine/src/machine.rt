@@ -58,10 +58,11 @@ pub struct Frame {
 pub enum Pending<'a> {
     Rest(&'a [PlacedStmt]),
     Loop(&'a [PlacedStmt]),
+    // What each variant does next is its first field, so that it lies at one place in all.
     Return {
+        rest: &'a [PlacedStmt],
         frame: Frame,
         receiver: Option<Local>,
-        rest: &'a [PlacedStmt],
     },
 }
 
@@ -234,7 +235,8 @@ impl<'a> Machine<'a> {
         ensures core { seen self.new ≡ with_local (seen self.old) x v }
         ensures memory { self.new.memory ≡ self.old.memory }
     {
-        self.values[self.frame.base + x.place as usize] = operate::fitted(x.kind, v);
+        let at = self.frame.base + x.place as usize;
+        frame::put(&mut self.values, at, operate::fitted(x.kind, v));
     }
 
     // What a call left is received, and the code behind it comes first. False where that is stuck.
@@ -268,7 +270,8 @@ impl<'a> Machine<'a> {
         ensures core { OnOk result (seen self.new ≡ with_at (with_piece (seen self.old) (rest (code_view more.now))) (code (code_view first.now))) }
         ensures memory { self.new.memory ≡ self.old.memory }
     {
-        self.pending.push(Pending::Rest(more))?;
+        self.pending.reserve(1)?;
+        self.pending.push_reserved(Pending::Rest(more));
         self.here = Here::Code(first);
         Ok(())
     }
@@ -278,8 +281,9 @@ impl<'a> Machine<'a> {
         ensures core { OnOk result (seen self.new ≡ with_at (with_piece (with_piece (seen self.old) (rest (code_view more.now))) (loop (code_view body.now))) (code (code_view body.now))) }
         ensures memory { self.new.memory ≡ self.old.memory }
     {
-        self.pending.push(Pending::Rest(more))?;
-        self.pending.push(Pending::Loop(body))?;
+        self.pending.reserve(2)?;
+        self.pending.push_reserved(Pending::Rest(more));
+        self.pending.push_reserved(Pending::Loop(body));
         self.here = Here::Code(body);
         Ok(())
     }
@@ -301,11 +305,16 @@ impl<'a> Machine<'a> {
         let base = self.values.len();
         frame::push_given(&mut self.values, self.frame.base, f.params.as_slice(), args)?;
         frame::fill(&mut self.values, base + f.slots as usize)?;
-        self.pending.push(Pending::Return {
-            frame: self.frame,
-            receiver: x,
+        self.pending.reserve(1)?;
+        self.pending.push_reserved(Pending::Return {
             rest: more,
-        })?;
+            frame: Frame {
+                base: self.frame.base,
+                result: self.frame.result,
+                is_inline: self.frame.is_inline,
+            },
+            receiver: x,
+        });
         self.frame = Frame {
             base,
             result: f.result,
@@ -625,9 +634,9 @@ impl<'a> Machine<'a> {
             },
             Some(
                 Pending::Return {
+                    rest,
                     frame,
                     receiver,
-                    rest,
                 },
             ) => Ok(self.come_back(flow, frame, receiver, rest)),
         }
