@@ -12,7 +12,7 @@ pub pieces-below : (ps : List Pending) (base : ℕ) (values other : List CValue)
 pieces-below [] base values other h = refl
 pieces-below (pending.Rest c ∷ ps) base values other h = ap (λ q. rest (code_view c.now) ∷ q) (pieces-below ps base values other h)
 pieces-below (pending.Loop c ∷ ps) base values other h = ap (λ q. loop (code_view c.now) ∷ q) (pieces-below ps base values other h)
-pieces-below (pending.Return f x c ∷ ps) base values other h = ap (λ q. ret x (level_of f q) (code_view c.now) ∷ pieces_of ps f.base q) h
+pieces-below (pending.Return c f x ∷ ps) base values other h = ap (λ q. ret x (level_of f q) (code_view c.now) ∷ pieces_of ps f.base q) h
 
 -- the last piece of the stack is the next one
 pub pieces_last : (all more : List Pending) (x : Pending) (base : ℕ) (values : List CValue) → all ≡ more ++ x ∷ [] → pieces_of (reverse all) base values ≡ pieces_of (x ∷ reverse more) base values

@@ -63,7 +63,7 @@ abbrev pub pieces_of : List Pending → ℕ → List CValue → List Piece
 pieces_of [] base values = []
 pieces_of (pending.Rest c ∷ more) base values = rest (code_view c.now) ∷ pieces_of more base values
 pieces_of (pending.Loop c ∷ more) base values = loop (code_view c.now) ∷ pieces_of more base values
-pieces_of (pending.Return f x c ∷ more) base values = ret x (level_of f (take base values)) (code_view c.now) ∷ pieces_of more f.base (take base values)
+pieces_of (pending.Return c f x ∷ more) base values = ret x (level_of f (take base values)) (code_view c.now) ∷ pieces_of more f.base (take base values)
 
 -- what the places of the function that runs hold
 abbrev pub frame_of : Machine → List CValue

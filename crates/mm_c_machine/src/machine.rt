@@ -58,10 +58,11 @@ pub struct Frame {
 pub enum Pending<'a> {
     Rest(&'a [PlacedStmt]),
     Loop(&'a [PlacedStmt]),
+    // What each variant does next is its first field, so that it lies at one place in all.
     Return {
+        rest: &'a [PlacedStmt],
         frame: Frame,
         receiver: Option<Local>,
-        rest: &'a [PlacedStmt],
     },
 }
 
@@ -99,6 +100,7 @@ pub enum Went {
 }
 
 // What a function that was left so returns, or nothing where that is stuck.
+#[inline(always)]
 fn left(result_kind: Option<CKind>, flow: Flow) -> Option<Option<CValue>>
     ensures { left_by result_kind (flow_view flow) ≡ or_stuck result }
 {
@@ -109,6 +111,7 @@ fn left(result_kind: Option<CKind>, flow: Flow) -> Option<Option<CValue>>
     }
 }
 
+#[inline(always)]
 fn returned_as(result_kind: Option<CKind>, value: Option<CValue>) -> Option<Option<CValue>>
     ensures { m.returned_as result_kind value ≡ or_stuck result }
 {
@@ -125,6 +128,7 @@ fn returned_as(result_kind: Option<CKind>, value: Option<CValue>) -> Option<Opti
 }
 
 // The element of an array at an index.
+#[inline]
 fn element(program: &PlacedProgram, array: u32, index: i64) -> Option<Element>
     ensures { result ≡ element_at (program_view program.now) array index }
 {
@@ -138,12 +142,14 @@ fn element(program: &PlacedProgram, array: u32, index: i64) -> Option<Element>
 }
 
 /// The function of a number.
+#[inline(always)]
 pub fn function(program: &PlacedProgram, number: u32) -> Option<&PlacedFunction>
     ensures { option_copied result ≡ slice_get program.now.functions number }
 {
     at(program.functions.as_slice(), number as usize)
 }
 
+#[inline]
 fn function_in(program: &PlacedProgram, array: u32, index: Option<i64>) -> Option<Callee>
     ensures { result ≡ function_in program.now array index }
 {
@@ -156,6 +162,7 @@ fn function_in(program: &PlacedProgram, array: u32, index: Option<i64>) -> Optio
     }
 }
 
+#[inline]
 fn number_in(program: &PlacedProgram, array: u32, index: Option<i64>) -> Option<CValue>
     ensures { result ≡ long_of (number_in program.now array index) }
 {
@@ -169,13 +176,15 @@ fn number_in(program: &PlacedProgram, array: u32, index: Option<i64>) -> Option<
 }
 
 impl<'a> Machine<'a> {
-    fn value(&self, a: Operand) -> CValue
-        requires { IsInOperand (length (frame_of self.now)) a }
-        ensures { result ≡ operand_of (start (frame_of self.now)) a }
+    #[inline(always)]
+    fn value(&self, a: &Operand) -> CValue
+        requires { IsInOperand (length (frame_of self.now)) a.now }
+        ensures { result ≡ operand_of (start (frame_of self.now)) a.now }
     {
-        frame::read(self.values.as_slice(), self.frame.base, a)
+        frame::read(self.values.as_slice(), self.frame.base, *a)
     }
 
+    #[inline(always)]
     fn place(&self, x: u32) -> CValue
         requires { x < length (frame_of self.now) }
         ensures { result ≡ start (frame_of self.now) x }
@@ -200,34 +209,38 @@ impl<'a> Machine<'a> {
     }
 
     // What a right side gives, or nothing where it is stuck.
-    fn right(&self, program: &PlacedProgram, r: Right) -> Option<CValue>
-        requires { IsInRight (length (frame_of self.now)) r }
-        ensures { (m : List c.Block) (w : plain.World) (calls : Calls) → Holds m self.now.memory → result ≡ value_in (around_of (program_view program.now) calls) (store_of (level_of self.now.frame self.now.values.items) (state m w)) r }
+    #[inline(always)]
+    fn right(&self, program: &PlacedProgram, r: &Right) -> Option<CValue>
+        requires { IsInRight (length (frame_of self.now)) r.now }
+        ensures { (m : List c.Block) (w : plain.World) (calls : Calls) → Holds m self.now.memory → result ≡ value_in (around_of (program_view program.now) calls) (store_of (level_of self.now.frame self.now.values.items) (state m w)) r.now }
     {
         match r {
             Right::Copy(a) => Some(self.value(a)),
             Right::Binary(a, o, b) => operate::operate(
                 &self.memory,
-                o,
+                *o,
                 self.value(a),
                 self.value(b),
             ),
-            Right::ToInt(x) => operate::as_int(self.place(x)),
-            Right::ToUnsigned(x) => operate::as_unsigned(self.place(x)),
-            Right::Load(c, p) => self.memory.load(c, self.place(p.pointer), p.offset),
-            Right::Index(a, i) => number_in(program, a, self.index(i)),
+            Right::ToInt(x) => operate::as_int(self.place(*x)),
+            Right::ToUnsigned(x) => operate::as_unsigned(self.place(*x)),
+            Right::Load(c, p) => self.memory.load(*c, self.place(p.pointer), p.offset),
+            Right::Index(a, i) => number_in(program, *a, self.index(*i)),
         }
     }
 
+    #[inline(always)]
     fn set(&mut self, x: Local, v: CValue)
         requires { x.place < length (frame_of self.old) }
         ensures core { seen self.new ≡ with_local (seen self.old) x v }
         ensures memory { self.new.memory ≡ self.old.memory }
     {
-        self.values[self.frame.base + x.place as usize] = operate::fitted(x.kind, v);
+        let at = self.frame.base + x.place as usize;
+        frame::put(&mut self.values, at, operate::fitted(x.kind, v));
     }
 
     // What a call left is received, and the code behind it comes first. False where that is stuck.
+    #[inline(always)]
     fn receive(&mut self, x: Option<Local>, v: Option<CValue>, more: &'a [PlacedStmt]) -> bool
         requires { IsInResult (length (frame_of self.old)) x }
         ensures core { Received result x v (seen self.old) (code_view more.now) (seen self.new) }
@@ -252,11 +265,13 @@ impl<'a> Machine<'a> {
 
 impl<'a> Machine<'a> {
     // Some code comes first, and then the rest of the block.
+    #[inline(always)]
     fn branch(&mut self, first: &'a [PlacedStmt], more: &'a [PlacedStmt]) -> Result<(), AllocError>
         ensures core { OnOk result (seen self.new ≡ with_at (with_piece (seen self.old) (rest (code_view more.now))) (code (code_view first.now))) }
         ensures memory { self.new.memory ≡ self.old.memory }
     {
-        self.pending.push(Pending::Rest(more))?;
+        self.pending.reserve(1)?;
+        self.pending.push_reserved(Pending::Rest(more));
         self.here = Here::Code(first);
         Ok(())
     }
@@ -266,13 +281,15 @@ impl<'a> Machine<'a> {
         ensures core { OnOk result (seen self.new ≡ with_at (with_piece (with_piece (seen self.old) (rest (code_view more.now))) (loop (code_view body.now))) (code (code_view body.now))) }
         ensures memory { self.new.memory ≡ self.old.memory }
     {
-        self.pending.push(Pending::Rest(more))?;
-        self.pending.push(Pending::Loop(body))?;
+        self.pending.reserve(2)?;
+        self.pending.push_reserved(Pending::Rest(more));
+        self.pending.push_reserved(Pending::Loop(body));
         self.here = Here::Code(body);
         Ok(())
     }
 
     // A function is entered: its parameters receive the arguments, as many as they are.
+    #[inline(always)]
     fn enter(
         &mut self,
         x: Option<Local>,
@@ -288,11 +305,16 @@ impl<'a> Machine<'a> {
         let base = self.values.len();
         frame::push_given(&mut self.values, self.frame.base, f.params.as_slice(), args)?;
         frame::fill(&mut self.values, base + f.slots as usize)?;
-        self.pending.push(Pending::Return {
-            frame: self.frame,
-            receiver: x,
+        self.pending.reserve(1)?;
+        self.pending.push_reserved(Pending::Return {
             rest: more,
-        })?;
+            frame: Frame {
+                base: self.frame.base,
+                result: self.frame.result,
+                is_inline: self.frame.is_inline,
+            },
+            receiver: x,
+        });
         self.frame = Frame {
             base,
             result: f.result,
@@ -303,6 +325,7 @@ impl<'a> Machine<'a> {
     }
 
     // A call of a function of the program, where the receiver and the code behind stand with it.
+    #[inline(always)]
     fn call(
         &mut self,
         x: Option<Local>,
@@ -326,6 +349,7 @@ impl<'a> Machine<'a> {
     }
 
     // The arguments of a function of the prelude, and its answer.
+    #[inline]
     fn ask(
         &mut self,
         alloc: Global,
@@ -347,6 +371,7 @@ impl<'a> Machine<'a> {
 
 impl<'a> Machine<'a> {
     // A call of a function of the prelude.
+    #[inline(never)]
     fn give(
         &mut self,
         alloc: Global,
@@ -381,6 +406,7 @@ impl<'a> Machine<'a> {
 
 impl<'a> Machine<'a> {
     // A call, which may enter a function.
+    #[inline(always)]
     fn invoke(
         &mut self,
         alloc: Global,
@@ -408,6 +434,7 @@ impl<'a> Machine<'a> {
         self.run_callee(alloc, program, world, callee, x, args, more)
     }
 
+    #[inline(always)]
     fn run_callee(
         &mut self,
         alloc: Global,
@@ -431,6 +458,7 @@ impl<'a> Machine<'a> {
         }
     }
 
+    #[inline(always)]
     fn run_found(
         &mut self,
         alloc: Global,
@@ -461,15 +489,16 @@ impl<'a> Machine<'a> {
 }
 
 impl<'a> Machine<'a> {
+    #[inline(always)]
     fn assign(
         &mut self,
         program: &PlacedProgram,
         x: Local,
-        r: Right,
+        r: &Right,
         more: &'a [PlacedStmt],
     ) -> Went
-        requires { IsReadyCore (with_at (seen self.old) (code (do_then (tree.assign x r) (code_view more.now)))) }
-        ensures { (m : List c.Block) (w : plain.World) → Holds m self.old.memory → Goes (program_view program.now) result (with_at (seen self.old) (code (do_then (tree.assign x r) (code_view more.now)))) m w (seen self.new) self.new.memory w }
+        requires { IsReadyCore (with_at (seen self.old) (code (do_then (tree.assign x r.now) (code_view more.now)))) }
+        ensures { (m : List c.Block) (w : plain.World) → Holds m self.old.memory → Goes (program_view program.now) result (with_at (seen self.old) (code (do_then (tree.assign x r.now) (code_view more.now)))) m w (seen self.new) self.new.memory w }
     {
         match self.right(program, r) {
             None => Went::Over(Ending::Stuck),
@@ -481,9 +510,10 @@ impl<'a> Machine<'a> {
         }
     }
 
-    fn store(&mut self, kind: CCell, p: Address, a: Operand, more: &'a [PlacedStmt]) -> Went
-        requires { IsReadyCore (with_at (seen self.old) (code (do_then (tree.store kind p a) (code_view more.now)))) }
-        ensures { (q : Program) (m : List c.Block) (w : plain.World) → Holds m self.old.memory → Goes q result (with_at (seen self.old) (code (do_then (tree.store kind p a) (code_view more.now)))) m w (seen self.new) self.new.memory w }
+    #[inline(always)]
+    fn store(&mut self, kind: CCell, p: Address, a: &Operand, more: &'a [PlacedStmt]) -> Went
+        requires { IsReadyCore (with_at (seen self.old) (code (do_then (tree.store kind p a.now) (code_view more.now)))) }
+        ensures { (q : Program) (m : List c.Block) (w : plain.World) → Holds m self.old.memory → Goes q result (with_at (seen self.old) (code (do_then (tree.store kind p a.now) (code_view more.now)))) m w (seen self.new) self.new.memory w }
     {
         let pointer = self.place(p.pointer);
         let value = operate::fitted_in(kind, self.value(a));
@@ -495,6 +525,7 @@ impl<'a> Machine<'a> {
         }
     }
 
+    #[inline(always)]
     fn clear(&mut self, xs: &[Local], more: &'a [PlacedStmt])
         requires { AreIn (length (frame_of self.old)) xs.now }
         ensures core { seen self.new ≡ with_at (with_level (seen self.old) (with_values (seen self.old).level (with_zeros xs.now (frame_of self.old)))) (code (code_view more.now)) }
@@ -505,15 +536,16 @@ impl<'a> Machine<'a> {
     }
 
     // One way at 0, and the other at any other number.
+    #[inline(always)]
     fn choose(
         &mut self,
-        a: Operand,
+        a: &Operand,
         b: &'a [PlacedStmt],
         d: &'a [PlacedStmt],
         more: &'a [PlacedStmt],
     ) -> Result<Went, AllocError>
-        requires { IsReadyCore (with_at (seen self.old) (code (do_then (tree.if_else a (code_view b.now) (code_view d.now)) (code_view more.now)))) }
-        ensures { IfOk result (λ went. (q : Program) (m : List c.Block) (w : plain.World) → Holds m self.old.memory → Goes q went (with_at (seen self.old) (code (do_then (tree.if_else a (code_view b.now) (code_view d.now)) (code_view more.now)))) m w (seen self.new) self.new.memory w) }
+        requires { IsReadyCore (with_at (seen self.old) (code (do_then (tree.if_else a.now (code_view b.now) (code_view d.now)) (code_view more.now)))) }
+        ensures { IfOk result (λ went. (q : Program) (m : List c.Block) (w : plain.World) → Holds m self.old.memory → Goes q went (with_at (seen self.old) (code (do_then (tree.if_else a.now (code_view b.now) (code_view d.now)) (code_view more.now)))) m w (seen self.new) self.new.memory w) }
     {
         match self.value(a) {
             CValue::Int(z) => {
@@ -530,6 +562,7 @@ impl<'a> Machine<'a> {
     }
 
     // The function that was called is left.
+    #[inline(always)]
     fn come_back(
         &mut self,
         flow: Flow,
@@ -555,6 +588,7 @@ impl<'a> Machine<'a> {
     }
 
     // A block or a loop is left so, or ends.
+    #[inline(always)]
     fn leave(&mut self, flow: Flow)
         ensures core { seen self.new ≡ with_at (seen self.old) (leaves (flow_view flow)) }
         ensures memory { self.new.memory ≡ self.old.memory }
@@ -563,6 +597,7 @@ impl<'a> Machine<'a> {
     }
 
     // One piece is taken from the stack.
+    #[inline(always)]
     fn arrive(&mut self, flow: Flow) -> Result<Went, AllocError>
         requires { IsReadyCore (with_at (seen self.old) (leaves (flow_view flow))) }
         ensures { IfOk result (λ went. (p : Program) (m : List c.Block) (w : plain.World) → Holds m self.old.memory → Goes p went (with_at (seen self.old) (leaves (flow_view flow))) m w (seen self.new) self.new.memory w) }
@@ -584,7 +619,7 @@ impl<'a> Machine<'a> {
             },
             Some(Pending::Loop(body)) => match flow {
                 Flow::Next | Flow::Continued => {
-                    self.pending.push(Pending::Loop(body))?;
+                    self.pending.push_reserved(Pending::Loop(body));
                     self.here = Here::Code(body);
                     Ok(Went::Stepped)
                 }
@@ -599,9 +634,9 @@ impl<'a> Machine<'a> {
             },
             Some(
                 Pending::Return {
+                    rest,
                     frame,
                     receiver,
-                    rest,
                 },
             ) => Ok(self.come_back(flow, frame, receiver, rest)),
         }
@@ -610,6 +645,7 @@ impl<'a> Machine<'a> {
 
 impl<'a> Machine<'a> {
     // One statement.
+    #[inline(always)]
     fn exec(
         &mut self,
         alloc: Global,
@@ -629,12 +665,12 @@ impl<'a> Machine<'a> {
                 self.clear(xs.as_slice(), more);
                 Ok(Went::On)
             }
-            PlacedStmt::Assign(x, r) => Ok(self.assign(program, *x, *r, more)),
-            PlacedStmt::Store(kind, p, a) => Ok(self.store(*kind, *p, *a, more)),
+            PlacedStmt::Assign(x, r) => Ok(self.assign(program, *x, r, more)),
+            PlacedStmt::Store(kind, p, a) => Ok(self.store(*kind, *p, a, more)),
             PlacedStmt::Call(x, t, args) => {
                 self.invoke(alloc, program, world, *x, *t, args.as_slice(), more)
             }
-            PlacedStmt::If(a, b, d) => self.choose(*a, b.as_slice(), d.as_slice(), more),
+            PlacedStmt::If(a, b, d) => self.choose(a, b.as_slice(), d.as_slice(), more),
             PlacedStmt::While(body) => {
                 self.begin(body.as_slice(), more)?;
                 Ok(Went::Stepped)
@@ -652,7 +688,7 @@ impl<'a> Machine<'a> {
                 Ok(Went::On)
             }
             PlacedStmt::ReturnValue(a) => {
-                let v = self.value(*a);
+                let v = self.value(a);
                 self.leave(Flow::Returned(Some(v)));
                 Ok(Went::On)
             }
@@ -660,6 +696,7 @@ impl<'a> Machine<'a> {
     }
 
     // One move.
+    #[inline(always)]
     fn go(
         &mut self,
         alloc: Global,

@@ -5,16 +5,65 @@ use Rattle.std.proofs.lemmas.Bool.Decides.{leb_tells, eqb_tells}
 use Rattle.mm_c.specs.declared.value.CCell.{CCell}
 use Rattle.mm_c.specs.declared.value.CCell.TheVariants as cell
 use Rattle.mm_c.specs.declared.value.CValue.{CValue}
+use Rattle.mm_c.specs.declared.value.CValue.TheVariants.{Int, Unsigned, Long, Null, At}
 use Rattle.mm_c.specs.Memory.{width_of, same_kind, Cell, is_apart, latest}
 use Rattle.mm_c.proofs.Bools.{and_left, and_right, both}
 use Rattle.mm_c_memory.specs.declared.memory.Half.{Half}
 use Rattle.mm_c_memory.specs.declared.memory.Half.TheVariants as half
-use Rattle.mm_c_memory.specs.Held.{half_at, is_free, is_clear, WereStored}
+use Rattle.mm_c_memory.specs.Held.{half_at, is_free, cell_in, kind_in, value_in, is_clear, WereStored}
+
+-- ---- what a half in which a cell begins tells of it
+
+pub cell_kind : (k : CCell) (v : CValue) → kind_in (cell_in k v) ≡ Some k
+cell_kind k (Int z) = refl
+cell_kind k (Unsigned n) = refl
+cell_kind k (Long z) = refl
+cell_kind k Null = refl
+cell_kind k (At b o) = refl
+
+pub cell_value : (k : CCell) (v : CValue) → value_in (cell_in k v) ≡ Some v
+cell_value k (Int z) = refl
+cell_value k (Unsigned n) = refl
+cell_value k (Long z) = refl
+cell_value k Null = refl
+cell_value k (At b o) = refl
+
+-- halves in which the same cell begins
+same_cell_kind : (k l : CCell) (v u : CValue) → cell_in k v ≡ cell_in l u → k ≡ l
+same_cell_kind k l v u e = let q : Some k ≡ Some l = sym (cell_kind k v) ∙ ap kind_in e ∙ cell_kind l u in cc
+
+same_cell_value : (k l : CCell) (v u : CValue) → cell_in k v ≡ cell_in l u → v ≡ u
+same_cell_value k l v u e = let q : Some v ≡ Some u = sym (cell_value k v) ∙ ap value_in e ∙ cell_value l u in cc
+
+pub not_empty : (k : CCell) (v : CValue) → cell_in k v ≡ half.Empty → ⊥
+not_empty k v e = let q : Some k ≡ None = sym (cell_kind k v) ∙ ap kind_in e in cc
+
+pub not_inside : (k : CCell) (v : CValue) → cell_in k v ≡ half.Inside → ⊥
+not_inside k v e = let q : Some k ≡ None = sym (cell_kind k v) ∙ ap kind_in e in cc
+
+-- a half in which a cell begins, by what it tells of it
+pub cell_is : (h : Half) (k : CCell) → kind_in h ≡ Some k → (v : CValue) × (h ≡ cell_in k v)
+cell_is half.Empty k e = cc
+cell_is (half.Int l z) k e = (Int z, let q : l ≡ k = cc in ap (λ j. half.Int j z) q)
+cell_is (half.Unsigned l n) k e = (Unsigned n, let q : l ≡ k = cc in ap (λ j. half.Unsigned j n) q)
+cell_is (half.Long l z) k e = (Long z, let q : l ≡ k = cc in ap (λ j. half.Long j z) q)
+cell_is (half.Null l) k e = (Null, let q : l ≡ k = cc in ap half.Null q)
+cell_is (half.At l o b) k e = (At b o, let q : l ≡ k = cc in ap (λ j. half.At j o b) q)
+cell_is half.Inside k e = cc
+
+pub value_is : (h : Half) (v : CValue) → value_in h ≡ Some v → (k : CCell) × (h ≡ cell_in k v)
+value_is half.Empty v e = cc
+value_is (half.Int k z) v e = (k, let q : Int z ≡ v = cc in ap (cell_in k) q)
+value_is (half.Unsigned k n) v e = (k, let q : Unsigned n ≡ v = cc in ap (cell_in k) q)
+value_is (half.Long k z) v e = (k, let q : Long z ≡ v = cc in ap (cell_in k) q)
+value_is (half.Null k) v e = (k, let q : Null ≡ v = cc in ap (cell_in k) q)
+value_is (half.At k o b) v e = (k, let q : At b o ≡ v = cc in ap (cell_in k) q)
+value_is half.Inside v e = cc
 
 -- ---- where the bytes of a half are, by a cell
 
 data Where (i : ℕ) (x : Cell) : Type 0 where
-  begins : x.offset ≡ 2 * i → ((xs : List Cell) → half_at i (x ∷ xs) ≡ half.Cell x.kind x.value) → Where i x
+  begins : x.offset ≡ 2 * i → ((xs : List Cell) → half_at i (x ∷ xs) ≡ cell_in x.kind x.value) → Where i x
   within : x.offset < 2 * i → 2 * i < x.offset + width_of x.kind → ((xs : List Cell) → half_at i (x ∷ xs) ≡ half.Inside) → Where i x
   apart : (2 * i < x.offset) ⊎ (x.offset + width_of x.kind ≤ 2 * i) → ((xs : List Cell) → half_at i (x ∷ xs) ≡ half_at i xs) → Where i x
 
@@ -124,38 +173,38 @@ half_kind : half.Empty ≡ half.Inside → ⊥
 half_kind e = cc
 
 -- The cell that a half begins is apart from a cell that had room, or at its place.
-clear_of : (kind : CCell) (offset i : ℕ) (xs : List Cell) (k : CCell) (v : CValue) → is_clear kind offset xs ≡ true → half_at i xs ≡ half.Cell k v → 2 * i ≢ offset → (offset + width_of kind ≤ 2 * i) ⊎ (2 * i + width_of k ≤ offset)
-clear_of kind offset i [] k v h e n = cc
+clear_of : (kind : CCell) (offset i : ℕ) (xs : List Cell) (k : CCell) (v : CValue) → is_clear kind offset xs ≡ true → half_at i xs ≡ cell_in k v → 2 * i ≢ offset → (offset + width_of kind ≤ 2 * i) ⊎ (2 * i + width_of k ≤ offset)
+clear_of kind offset i [] k v h e n = absurd (not_empty k v (sym e))
 clear_of kind offset i (x ∷ xs) k v h e n =
     elim (look i x) [
       | begins at is ↦
-          let kind_is : x.kind ≡ k = let q = is xs in cc in
+          let kind_is : x.kind ≡ k = same_cell_kind x.kind k x.value v (sym (is xs) ∙ e) in
           let far = far_room kind offset x (and_left (leaves_room kind offset x) _ h) (λ q. n (sym at ∙ q)) in
           ⊎_elim (λ a. inl (let b : offset + width_of kind ≤ x.offset = a in omega (arith, at, b))) (λ a. inr (let b : x.offset + width_of x.kind ≤ offset = a in let c = ap width_of kind_is in omega (arith, at, b, c))) far
-      | within past near is ↦ (let q = is xs in cc)
+      | within past near is ↦ absurd (not_inside k v (sym e ∙ is xs))
       | apart far is ↦ clear_of kind offset i xs k v (and_right (leaves_room kind offset x) _ h) (sym (is xs) ∙ e) n
     ]
 
 -- where a cell begins, one of its kind may stand, and no other
-pub value_room : (kind : CCell) (i : ℕ) (xs : List Cell) (k : CCell) (v : CValue) → WereStored xs → half_at i xs ≡ half.Cell k v → is_clear kind (2 * i) xs ≡ same_kind k kind
-value_room kind i [] k v st e = cc
+pub value_room : (kind : CCell) (i : ℕ) (xs : List Cell) (k : CCell) (v : CValue) → WereStored xs → half_at i xs ≡ cell_in k v → is_clear kind (2 * i) xs ≡ same_kind k kind
+value_room kind i [] k v st e = absurd (not_empty k v (sym e))
 value_room kind i (x ∷ xs) k v st e =
     elim (look i x) [
       | begins at is ↦ begun at (is xs)
-      | within past near is ↦ (let q = is xs in cc)
+      | within past near is ↦ absurd (not_inside k v (sym e ∙ is xs))
       | apart far is ↦ passed far (value_room kind i xs k v st.1.2 (sym (is xs) ∙ e)) (sym (is xs) ∙ e)
     ]
   where
-    begun : x.offset ≡ 2 * i → half_at i (x ∷ xs) ≡ half.Cell x.kind x.value → is_clear kind (2 * i) (x ∷ xs) ≡ same_kind k kind
+    begun : x.offset ≡ 2 * i → half_at i (x ∷ xs) ≡ cell_in x.kind x.value → is_clear kind (2 * i) (x ∷ xs) ≡ same_kind k kind
     begun at is =
-        let kind_is : x.kind ≡ k = cc in
+        let kind_is : x.kind ≡ k = same_cell_kind x.kind k x.value v (sym is ∙ e) in
         ap (λ q. q && is_clear kind (2 * i) xs) (room_here kind (2 * i) x at ∙ ap (λ q. same_kind q kind) kind_is)
         ∙ ⊎_elim
         (λ s. let same : k ≡ kind = same_is k kind s in ap (λ q. same_kind k kind && q) (ap₂ (λ q o. is_clear q o xs) (sym same ∙ sym kind_is) (sym at) ∙ st.1.1) ∙ rw s refl)
         (λ s. rw s refl)
         (cases_Bool (same_kind k kind))
 
-    passed : (2 * i < x.offset) ⊎ (x.offset + width_of x.kind ≤ 2 * i) → is_clear kind (2 * i) xs ≡ same_kind k kind → half_at i xs ≡ half.Cell k v → is_clear kind (2 * i) (x ∷ xs) ≡ same_kind k kind
+    passed : (2 * i < x.offset) ⊎ (x.offset + width_of x.kind ≤ 2 * i) → is_clear kind (2 * i) xs ≡ same_kind k kind → half_at i xs ≡ cell_in k v → is_clear kind (2 * i) (x ∷ xs) ≡ same_kind k kind
     passed far rest e =
         ⊎_elim
         (λ s. let same : k ≡ kind = same_is k kind s in
@@ -171,7 +220,7 @@ pub inside_room : (kind : CCell) (i : ℕ) (xs : List Cell) → half_at i xs ≡
 inside_room kind i [] e = cc
 inside_room kind i (x ∷ xs) e =
     elim (look i x) [
-      | begins at is ↦ (let q = is xs in cc)
+      | begins at is ↦ absurd (not_inside x.kind x.value (sym (is xs) ∙ e))
       | within past near is ↦
           let a : x.offset < 2 * i + width_of kind = let w = some_bytes kind in omega (arith, past, w) in
           and_false (leaves_room kind (2 * i) x) _ (inl (room_near kind (2 * i) x a near (λ q. let b : ⊥ = omega (arith, q, past) in b)))
@@ -180,7 +229,11 @@ inside_room kind i (x ∷ xs) e =
 
 pub free_is : (h : Half) → is_free h ≡ true → h ≡ half.Empty
 free_is half.Empty e = refl
-free_is (half.Cell k v) e = cc
+free_is (half.Int k z) e = cc
+free_is (half.Unsigned k n) e = cc
+free_is (half.Long k z) e = cc
+free_is (half.Null k) e = cc
+free_is (half.At k o b) e = cc
 free_is half.Inside e = cc
 
 -- where nothing was stored, any cell may stand
@@ -192,7 +245,7 @@ empty_room kind i (x ∷ xs) st all =
     beyond : (j : ℕ) → i ≤ j → j < i + width_of kind / 2 → half_at j xs ≡ half.Empty
     beyond j a b =
         elim (look j x) [
-          | begins at is ↦ (let q = is xs in let r = all j a b in cc)
+          | begins at is ↦ absurd (not_empty x.kind x.value (sym (is xs) ∙ all j a b))
           | within past near is ↦ (let q = is xs in let r = all j a b in cc)
           | apart far is ↦ sym (is xs) ∙ all j a b
         ]
@@ -203,7 +256,7 @@ empty_room kind i (x ∷ xs) st all =
         let v = even_width kind in
         let r = all i (omega arith) (omega (arith, w, v)) in
         elim (look i x) [
-          | begins at is ↦ (let q = is xs in cc)
+          | begins at is ↦ absurd (not_empty x.kind x.value (sym (is xs) ∙ r))
           | within past near is ↦ (let q = is xs in cc)
           | apart far is ↦ far
         ]
@@ -219,7 +272,7 @@ empty_room kind i (x ∷ xs) st all =
         let bb = b.1 in
         let r = all st.0 (omega (arith, a, even)) (omega (arith, even, v, bb)) in
         absurd (elim (look st.0 x) [
-          | begins at is ↦ (let q = is xs in cc)
+          | begins at is ↦ not_empty x.kind x.value (sym (is xs) ∙ r)
           | within past near is ↦ (let q = is xs in cc)
           | apart far is ↦ ⊎_elim (λ c. let d : ⊥ = omega (arith, c, even) in d) (λ c. let d : ⊥ = let w = some_bytes x.kind in omega (arith, c, even, w) in d) far
         ]))
@@ -234,7 +287,7 @@ taken_room kind i j (x ∷ xs) e le lt f =
     let v = even_width kind in
     let w = some_bytes x.kind in
     elim (look i x) [
-      | begins at is ↦ (let q = is xs in cc)
+      | begins at is ↦ absurd (not_empty x.kind x.value (sym (is xs) ∙ e))
       | within past near is ↦ (let q = is xs in cc)
       | apart far same ↦
           (let n : x.offset ≢ 2 * i = λ q. ⊎_elim (λ a. let b : ⊥ = omega (arith, q, a) in b) (λ a. let b : ⊥ = omega (arith, q, a, w) in b) far in
@@ -249,12 +302,12 @@ taken_room kind i j (x ∷ xs) e le lt f =
 
 -- ---- what is loaded
 
-pub latest_value : (i : ℕ) (xs : List Cell) (k : CCell) (v : CValue) → half_at i xs ≡ half.Cell k v → latest (2 * i) xs ≡ Some v
-latest_value i [] k v e = cc
+pub latest_value : (i : ℕ) (xs : List Cell) (k : CCell) (v : CValue) → half_at i xs ≡ cell_in k v → latest (2 * i) xs ≡ Some v
+latest_value i [] k v e = absurd (not_empty k v (sym e))
 latest_value i (x ∷ xs) k v e =
     elim (look i x) [
-      | begins at is ↦ if_true (eqb x.offset (2 * i)) _ _ (eq-eqb x.offset (2 * i) at) ∙ (let q = is xs in let val : x.value ≡ v = cc in ap Some val)
-      | within past near is ↦ (let q = is xs in cc)
+      | begins at is ↦ if_true (eqb x.offset (2 * i)) _ _ (eq-eqb x.offset (2 * i) at) ∙ ap Some (same_cell_value x.kind k x.value v (sym (is xs) ∙ e))
+      | within past near is ↦ absurd (not_inside k v (sym e ∙ is xs))
       | apart far is ↦ if_false (eqb x.offset (2 * i)) _ _ (ne_eqb x.offset (2 * i) (not_here far)) ∙ latest_value i xs k v (sym (is xs) ∙ e)
     ]
   where
@@ -265,7 +318,7 @@ pub latest_none : (i : ℕ) (xs : List Cell) → half_at i xs ≡ half.Empty →
 latest_none i [] e = refl
 latest_none i (x ∷ xs) e =
     elim (look i x) [
-      | begins at is ↦ (let q = is xs in cc)
+      | begins at is ↦ absurd (not_empty x.kind x.value (sym (is xs) ∙ e))
       | within past near is ↦ (let q = is xs in cc)
       | apart far is ↦ if_false (eqb x.offset (2 * i)) _ _ (ne_eqb x.offset (2 * i) (not_here far)) ∙ latest_none i xs (sym (is xs) ∙ e)
     ]
@@ -275,7 +328,7 @@ latest_none i (x ∷ xs) e =
 
 -- ---- what is stored
 
-pub stored_first : (i : ℕ) (x : Cell) (xs : List Cell) → x.offset ≡ 2 * i → half_at i (x ∷ xs) ≡ half.Cell x.kind x.value
+pub stored_first : (i : ℕ) (x : Cell) (xs : List Cell) → x.offset ≡ 2 * i → half_at i (x ∷ xs) ≡ cell_in x.kind x.value
 stored_first i x xs at = if_true (eqb x.offset (2 * i)) _ _ (eq-eqb x.offset (2 * i) at)
 
 pub stored_within : (i : ℕ) (x : Cell) (xs : List Cell) → x.offset < 2 * i → 2 * i < x.offset + width_of x.kind → half_at i (x ∷ xs) ≡ half.Inside

@@ -1,3 +1,4 @@
 pub mod Halves
 pub mod Blocks
 pub mod Memories
+pub mod Numbers

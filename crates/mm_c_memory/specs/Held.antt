@@ -3,7 +3,7 @@ use Rattle.std.specs.Prelude.{◌≡◌, ℕ, ℤ, pos, nat_le, ◌+◌, ◌*◌
 use Rattle.std.specs.List.{list_all}
 use Rattle.mm_c.specs.declared.value.CCell.{CCell}
 use Rattle.mm_c.specs.declared.value.CValue.{CValue}
-use Rattle.mm_c.specs.declared.value.CValue.TheVariants.{At}
+use Rattle.mm_c.specs.declared.value.CValue.TheVariants.{Int, Unsigned, Long, Null, At}
 use Rattle.mm_c.specs.Memory.{width_of, same_kind, Cell, is_apart, has_room}
 use Rattle.mm_c.specs.Memory as c
 use Rattle.mm_c_memory.specs.declared.memory.Half.{Half}
@@ -11,17 +11,48 @@ use Rattle.mm_c_memory.specs.declared.memory.Half.TheVariants as half
 use Rattle.mm_c_memory.specs.declared.memory.Block.{Block}
 use Rattle.mm_c_memory.specs.declared.memory.Memory.{Memory}
 
+-- the half in which a cell of a kind begins, with its value
+abbrev pub cell_in : CCell → CValue → Half
+cell_in k (Int z) = half.Int k z
+cell_in k (Unsigned n) = half.Unsigned k n
+cell_in k (Long z) = half.Long k z
+cell_in k Null = half.Null k
+cell_in k (At b o) = half.At k o b
+
 -- the half of the bytes 2 i and 2 i + 1, by the cells that were stored, the latest first
 abbrev pub half_at : ℕ → List Cell → Half
 half_at i [] = half.Empty
 half_at i (x ∷ xs) =
-    if x.offset == 2 * i then half.Cell x.kind x.value
+    if x.offset == 2 * i then cell_in x.kind x.value
     else (if nat_lt x.offset (2 * i) && nat_lt (2 * i) (x.offset + width_of x.kind) then half.Inside else half_at i xs)
 
 abbrev pub is_free : Half → Bool
 is_free half.Empty = true
-is_free (half.Cell k v) = false
+is_free (half.Int k z) = false
+is_free (half.Unsigned k n) = false
+is_free (half.Long k z) = false
+is_free (half.Null k) = false
+is_free (half.At k o b) = false
 is_free half.Inside = false
+
+-- the kind of the cell that begins in a half, and its value
+abbrev pub kind_in : Half → Option CCell
+kind_in half.Empty = None
+kind_in (half.Int k z) = Some k
+kind_in (half.Unsigned k n) = Some k
+kind_in (half.Long k z) = Some k
+kind_in (half.Null k) = Some k
+kind_in (half.At k o b) = Some k
+kind_in half.Inside = None
+
+abbrev pub value_in : Half → Option CValue
+value_in half.Empty = None
+value_in (half.Int k z) = Some (Int z)
+value_in (half.Unsigned k n) = Some (Unsigned n)
+value_in (half.Long k z) = Some (Long z)
+value_in (half.Null k) = Some Null
+value_in (half.At k o b) = Some (At b o)
+value_in half.Inside = None
 
 -- From one number on and below another, nothing was stored in the halves.
 abbrev pub AreEmpty : List Half → ℕ → ℕ → Type 0

@@ -1,11 +1,12 @@
 // Blocks of cells. A cell begins at an even offset and has 2, 4 or 8 bytes, so a block is held as
-// its halves: two bytes each, with the value whose cell begins there.
+// its halves: two bytes each, with the value whose cell begins there. The value stands in the
+// half's own variants and not as a `CValue` inside of one, so that a half takes 16 bytes.
 
 ghost use Rattle.std.specs.Prelude.{◌≡◌, ◌↔◌, ℕ, ◌+◌, ◌*◌, ◌/◌, ◌^◌, ◌<◌, ◌≤◌, Bool, true, List, [], ◌∷◌, ◌++◌, length, slice_get, Option, IfOk, OnErr};
 ghost use Rattle.std.specs.Option.{option_map};
 ghost use Rattle.mm_c.specs.Memory as c;
 ghost use Rattle.mm_c.specs.declared.value.CValue.TheVariants.{At};
-ghost use Rattle.mm_c_memory.specs.Held.{is_free, AreEmpty, WithInside, HoldsBlock, Holds, StoresIn, Stores, size_in};
+ghost use Rattle.mm_c_memory.specs.Held.{is_free, cell_in, kind_in, value_in, AreEmpty, WithInside, HoldsBlock, Holds, StoresIn, Stores, size_in};
 
 use mm_c::value::{CCell, CValue};
 use std::alloc::{AllocError, Global};
@@ -15,8 +16,13 @@ use std::alloc::{AllocError, Global};
 pub enum Half {
     /// Nothing was stored in them.
     Empty,
-    /// A cell begins here.
-    Cell(CCell, CValue),
+    /// A cell of a kind begins here, with a number.
+    Int(CCell, i32),
+    Unsigned(CCell, u32),
+    Long(CCell, i32),
+    /// A cell begins here, with a pointer: null, or an offset in a block.
+    Null(CCell),
+    At(CCell, u32, usize),
     /// A cell begins before.
     Inside,
 }
@@ -35,6 +41,7 @@ pub struct Memory {
 }
 
 /// The bytes of a cell.
+#[inline(always)]
 pub fn width_of(kind: CCell) -> usize
     ensures { result ≡ c.width_of kind }
 {
@@ -47,6 +54,7 @@ pub fn width_of(kind: CCell) -> usize
 }
 
 /// What a cell holds where nothing was stored.
+#[inline(always)]
 pub fn zero_of(kind: CCell) -> CValue
     ensures { result ≡ c.zero_of kind }
 {
@@ -58,6 +66,7 @@ pub fn zero_of(kind: CCell) -> CValue
     }
 }
 
+#[inline(always)]
 fn same_kind(a: CCell, b: CCell) -> bool
     ensures { result ≡ c.same_kind a b }
 {
@@ -69,17 +78,61 @@ fn same_kind(a: CCell, b: CCell) -> bool
     }
 }
 
+#[inline(always)]
 fn is_empty(half: Half) -> bool
     ensures { result ≡ is_free half }
 {
+    matches!(half, Half::Empty)
+}
+
+// The half in which a cell begins.
+#[inline(always)]
+fn cell(kind: CCell, value: CValue) -> Half
+    ensures { result ≡ cell_in kind value }
+{
+    match value {
+        CValue::Int(number) => Half::Int(kind, number),
+        CValue::Unsigned(number) => Half::Unsigned(kind, number),
+        CValue::Long(number) => Half::Long(kind, number),
+        CValue::Null => Half::Null(kind),
+        CValue::At(block, offset) => Half::At(kind, offset, block),
+    }
+}
+
+// The kind of the cell that begins in a half.
+#[inline(always)]
+fn kind_in(half: Half) -> Option<CCell>
+    ensures { result ≡ kind_in half }
+{
     match half {
-        Half::Empty => true,
-        Half::Cell(_, _) => false,
-        Half::Inside => false,
+        Half::Empty => None,
+        Half::Int(kind, _) => Some(kind),
+        Half::Unsigned(kind, _) => Some(kind),
+        Half::Long(kind, _) => Some(kind),
+        Half::Null(kind) => Some(kind),
+        Half::At(kind, _, _) => Some(kind),
+        Half::Inside => None,
+    }
+}
+
+// The value of the cell that begins in a half.
+#[inline(always)]
+fn value_in(half: Half) -> Option<CValue>
+    ensures { result ≡ value_in half }
+{
+    match half {
+        Half::Empty => None,
+        Half::Int(_, number) => Some(CValue::Int(number)),
+        Half::Unsigned(_, number) => Some(CValue::Unsigned(number)),
+        Half::Long(_, number) => Some(CValue::Long(number)),
+        Half::Null(_) => Some(CValue::Null),
+        Half::At(_, offset, block) => Some(CValue::At(block, offset)),
+        Half::Inside => None,
     }
 }
 
 // Whether nothing was stored in these halves.
+#[inline]
 fn are_empty(halves: &[Half], from: usize, to: usize) -> bool
     requires { to ≤ length halves.now }
     ensures { (result ≡ true) ↔ AreEmpty halves.now from to }
@@ -93,6 +146,7 @@ fn are_empty(halves: &[Half], from: usize, to: usize) -> bool
 }
 
 // The halves behind the first of a cell.
+#[inline]
 fn put_inside(halves: &mut Vec<Half>, from: usize, to: usize)
     requires order { from ≤ to }
     requires within { to ≤ length halves.old.items }
@@ -113,6 +167,7 @@ impl Block {
     }
 
     /// Whether a cell of the kind may stand at an offset. This looks at no more than four halves.
+    #[inline]
     fn has_room(&self, kind: CCell, offset: usize) -> bool
         requires { offset < 2 ^ 33 }
         ensures within { result ≡ true → offset / 2 + c.width_of kind / 2 ≤ length self.now.halves.items }
@@ -124,14 +179,14 @@ impl Block {
         if offset % width != 0 || end > self.halves.len() {
             return false;
         }
-        match self.halves[first] {
-            Half::Empty => are_empty(self.halves.as_slice(), first, end),
-            Half::Cell(there, _) => same_kind(there, kind),
-            Half::Inside => false,
+        match kind_in(self.halves[first]) {
+            Some(there) => same_kind(there, kind),
+            None => are_empty(self.halves.as_slice(), first, end),
         }
     }
 
     /// What the cell at an offset holds.
+    #[inline]
     fn load(&self, kind: CCell, offset: usize) -> Option<CValue>
         requires { offset < 2 ^ 33 }
         ensures { (b : c.Block) → HoldsBlock b self.now → result ≡ c.load_in kind offset (Some b) }
@@ -139,14 +194,15 @@ impl Block {
         if !self.has_room(kind, offset) {
             return None;
         }
-        match self.halves[offset / 2] {
-            Half::Cell(_, value) => Some(value),
-            _ => Some(zero_of(kind)),
+        match value_in(self.halves[offset / 2]) {
+            Some(value) => Some(value),
+            None => Some(zero_of(kind)),
         }
     }
 
     /// Stores a value in the cell at an offset, and says whether a cell of the kind may stand
     /// there.
+    #[inline]
     fn store(&mut self, kind: CCell, offset: usize, value: CValue) -> bool
         requires { offset < 2 ^ 33 }
         ensures { (b : c.Block) → HoldsBlock b self.old → StoresIn result b kind offset value self.new }
@@ -155,7 +211,7 @@ impl Block {
             return false;
         }
         let first = offset / 2;
-        self.halves[first] = Half::Cell(kind, value);
+        self.halves[first] = cell(kind, value);
         put_inside(&mut self.halves, first + 1, first + width_of(kind) / 2);
         true
     }
@@ -193,6 +249,7 @@ impl Memory {
     }
 
     /// What a load gives at a pointer and an offset past it, or nothing where it is stuck.
+    #[inline]
     pub fn load(&self, kind: CCell, pointer: CValue, offset: u32) -> Option<CValue>
         ensures { (m : List c.Block) → Holds m self.now → result ≡ c.load m kind pointer offset }
     {
@@ -209,6 +266,7 @@ impl Memory {
     }
 
     /// Stores a value at a pointer and an offset past it, and says whether that isn't stuck.
+    #[inline]
     pub fn store(&mut self, kind: CCell, pointer: CValue, offset: u32, value: CValue) -> bool
         ensures { (m : List c.Block) → Holds m self.old → Stores result (c.store m kind pointer offset value) self.new }
     {

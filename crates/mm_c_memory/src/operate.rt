@@ -10,6 +10,7 @@ use mm_c::tree::{CKind, COperator};
 use mm_c::value::{CCell, CValue};
 
 /// What a local of a kind holds at first.
+#[inline]
 pub fn zero_of(kind: CKind) -> CValue
     ensures { result ≡ m.zero_of kind }
 {
@@ -34,7 +35,20 @@ fn zero_for(kind: CKind) -> CValue
 }
 
 /// A value as what receives it holds it.
+#[inline(always)]
+#[tactic(auto, using(crate::proofs::Numbers::fitted_int, crate::proofs::Numbers::fitted_unsigned))]
 pub fn fitted(kind: CKind, value: CValue) -> CValue
+    ensures { result ≡ m.fitted kind value }
+{
+    match kind {
+        CKind::Int => value,
+        CKind::Unsigned => value,
+        _ => fitted_zero(kind, value),
+    }
+}
+
+#[inline(always)]
+fn fitted_zero(kind: CKind, value: CValue) -> CValue
     ensures { result ≡ m.fitted kind value }
 {
     match value {
@@ -66,6 +80,7 @@ fn as_tag(value: CValue) -> CValue
 }
 
 /// A value as a cell holds it.
+#[inline]
 pub fn fitted_in(cell: CCell, value: CValue) -> CValue
     ensures { result ≡ m.fitted_in cell value }
 {
@@ -77,12 +92,14 @@ pub fn fitted_in(cell: CCell, value: CValue) -> CValue
     }
 }
 
+#[inline(always)]
 fn truth(holds: bool) -> Option<CValue>
     ensures { result ≡ m.truth holds }
 {
     Some(CValue::Int(if holds { 1 } else { 0 }))
 }
 
+#[inline(always)]
 fn on_ints(operator: COperator, x: i32, y: i32) -> Option<CValue>
     ensures { result ≡ m.on_ints operator x y }
 {
@@ -235,13 +252,29 @@ fn beside(x: CValue, y: CValue) -> CValue
 
 /// An operator on two values, or nothing where it is stuck. A `0` is what the other operand's kind
 /// receives.
+#[inline(always)]
+#[tactic(auto, using(crate::proofs::Numbers::operate_ints))]
 pub fn operate(memory: &Memory, operator: COperator, x: CValue, y: CValue) -> Option<CValue>
+    ensures { (blocks : List c.Block) → Holds blocks memory.now → result ≡ m.operate blocks operator x y }
+{
+    match x {
+        CValue::Int(a) => match y {
+            CValue::Int(b) => on_ints(operator, a, b),
+            _ => operate_any(memory, operator, x, y),
+        },
+        _ => operate_any(memory, operator, x, y),
+    }
+}
+
+// An operator on any two values.
+fn operate_any(memory: &Memory, operator: COperator, x: CValue, y: CValue) -> Option<CValue>
     ensures { (blocks : List c.Block) → Holds blocks memory.now → result ≡ m.operate blocks operator x y }
 {
     on_alike(memory, operator, fitted(kind_of(y), x), beside(x, y))
 }
 
 /// A value as an `int`, where it is one or an `unsigned`.
+#[inline]
 pub fn as_int(value: CValue) -> Option<CValue>
     ensures { result ≡ m.as_int value }
 {
@@ -253,6 +286,7 @@ pub fn as_int(value: CValue) -> Option<CValue>
 }
 
 /// A value as an `unsigned`, where it is one or an `int`.
+#[inline]
 pub fn as_unsigned(value: CValue) -> Option<CValue>
     ensures { result ≡ m.as_unsigned value }
 {
@@ -264,6 +298,7 @@ pub fn as_unsigned(value: CValue) -> Option<CValue>
 }
 
 /// The number that an index is.
+#[inline]
 pub fn as_index(value: CValue) -> Option<i64>
     ensures { result ≡ m.as_index value }
 {

@@ -9,11 +9,11 @@ use Rattle.mm_c_machine.proofs.machine.Machine.assign.Goals as goal
 
 pub returns-in-None : goal.returns-in-None
 returns-in-None c = λ m w holds.
-    assign_stuck (program_view c.args.program.now) (seen c.args.self.now).level (seen c.args.self.now).pieces m w c.args.x c.args.r (code_view c.args.more.now)
+    assign_stuck (program_view c.args.program.now) (seen c.args.self.now).level (seen c.args.self.now).pieces m w c.args.x c.args.r.now (code_view c.args.more.now)
     (sym (c.right.ensures m w (calls_in (program_view c.args.program.now) c.args.self.now.frame.is_inline) holds) ∙ c.in-None.is)
 
 pub returns-in-Some : goal.returns-in-Some
 returns-in-Some c = λ m w holds.
-    subst (λ s. GoesFurther (program_view c.args.program.now) (with_at (seen c.args.self.now) (code (do_then (assign c.args.x c.args.r) (code_view c.args.more.now)))) m w s c.set.new.self.memory w) (sym (ap (λ s. with_at s (code (code_view c.args.more.now))) c.set.ensures.core))
-    (assign_goes (program_view c.args.program.now) (seen c.args.self.now).level (seen c.args.self.now).pieces m w c.args.x c.args.r c.in-Some.v (code_view c.args.more.now) c.set.new.self.memory (subst (Holds m) (sym c.set.ensures.memory) holds) c.requires
+    subst (λ s. GoesFurther (program_view c.args.program.now) (with_at (seen c.args.self.now) (code (do_then (assign c.args.x c.args.r.now) (code_view c.args.more.now)))) m w s c.set.new.self.memory w) (sym (ap (λ s. with_at s (code (code_view c.args.more.now))) c.set.ensures.core))
+    (assign_goes (program_view c.args.program.now) (seen c.args.self.now).level (seen c.args.self.now).pieces m w c.args.x c.args.r.now c.in-Some.v (code_view c.args.more.now) c.set.new.self.memory (subst (Holds m) (sym c.set.ensures.memory) holds) c.requires
     (sym (c.right.ensures m w (calls_in (program_view c.args.program.now) c.args.self.now.frame.is_inline) holds) ∙ c.in-Some.is))
