@@ -10,7 +10,7 @@ ghost use Rattle.mm_unit_typing.specs.Types as spec;
 ghost use Rattle.mm_unit_typing.specs.Made.{begun, zero_set};
 ghost use Rattle.mm_unit_typing.specs.Scopes.{inside, variable, variables_from, declared_by};
 ghost use Rattle.mm_unit_typing.specs.Judge as judges;
-ghost use Rattle.mm_check_stmt.specs.Results.{Makes, added, outside, specified_view, steps_view};
+ghost use Rattle.mm_check_stmt.specs.Results.{Makes, added, begin_view, outside, specified_view, steps_view};
 
 use crate::declare::{first_place, need_stand, need_yours, want_type, zero_value};
 use crate::types::{Specified, check_type, kept_type, value_type, variable_type};
@@ -29,6 +29,15 @@ use mm_syntax::stmt::{Declarator, Initializer, Variables};
 use mm_unit_typing::here::Here;
 use sqlite_items::{Boxed, Items};
 use std::alloc::{AllocError, Global};
+
+/// What a local begins as that gets no value of its own.
+#[derive(Clone, Copy)]
+pub enum Begin {
+    /// A new object.
+    Object(u32),
+    /// Zero of this type.
+    Zero(u32, Ty),
+}
 
 /// The number of the next local.
 pub fn next_local(locals: &Items<Ty>) -> Result<u32, CheckEnd>
@@ -57,37 +66,46 @@ fn unbuilt_declarator(alloc: Global, place: Place) -> Result<CoreStmt, CheckEnd>
     Err(CheckEnd::Fault(Code::N0, place, text))
 }
 
-// A local that begins as zero.
-fn set_zero(
+// The local begins as zero, where its variable may have this type.
+fn want_zero(
     alloc: Global,
     local: u32,
     ty: Option<Ty>,
     mark: &Option<DeclaratorMark>,
     name: &Name,
-) -> Result<CoreStmt, CheckEnd>
-    ensures { Gives stmt_view result (wanted (zero_set local ty) (spec.wrong_kind mark.now name.now)) }
+) -> Result<Begin, CheckEnd>
+    ensures { Gives begin_view result (wanted (zero_set local ty) (spec.wrong_kind mark.now name.now)) }
 {
     let ty = want_type(alloc, ty, mark, name)?;
-    set_local(alloc, local, zero_value(&ty))
+    Ok(Begin::Zero(local, ty))
 }
 
-// A variable without an initializer begins as a new object or as zero.
-#[tactic(auto, using(mm_core::proofs::Views::core_rules))]
-fn begin_alone(
+// What a variable begins as that has no initializer.
+fn want_begin(
     alloc: Global,
     local: u32,
     words: &Specified,
     mark: &Option<DeclaratorMark>,
     name: &Name,
-) -> Result<CoreStmt, CheckEnd>
-    ensures { Gives stmt_view result (wanted (begun local mark.now (specified_view words.now)) (spec.wrong_kind mark.now name.now)) }
+) -> Result<Begin, CheckEnd>
+    ensures { Gives begin_view result (wanted (begun local mark.now (specified_view words.now)) (spec.wrong_kind mark.now name.now)) }
 {
     match (mark, words) {
-        (None, Specified::Class(_)) => Ok(CoreStmt::Make(local)),
+        (None, Specified::Class(_)) => Ok(Begin::Object(local)),
         (None, Specified::Scalar(_)) => {
-            set_zero(alloc, local, kept_type(mark, words), mark, name)
+            want_zero(alloc, local, kept_type(mark, words), mark, name)
         }
-        (Some(_), _) => set_zero(alloc, local, kept_type(mark, words), mark, name),
+        (Some(_), _) => want_zero(alloc, local, kept_type(mark, words), mark, name),
+    }
+}
+
+#[tactic(auto, using(mm_core::proofs::Views::core_rules))]
+fn make_begin(alloc: Global, begin: &Begin) -> Result<CoreStmt, CheckEnd>
+    ensures { Gives stmt_view result (Ok (begin_view begin.now)) }
+{
+    match begin {
+        Begin::Object(local) => Ok(CoreStmt::Make(*local)),
+        Begin::Zero(local, ty) => set_local(alloc, *local, zero_value(ty)),
     }
 }
 
@@ -105,9 +123,9 @@ fn begin_empty(
     ensures { Gives stmt_view result (judges.judge_begin (outside env.now) here.now type_name.now (specified_view words.now) env.now.vars local x.now.mark x.now.name no_initial) }
 {
     need_stand(alloc, env, here.outer, type_name, words, &x.mark, &x.name)?;
-    let step = begin_alone(alloc, local, words, &x.mark, &x.name)?;
+    let begin = want_begin(alloc, local, words, &x.mark, &x.name)?;
     need_yours(alloc, &x.name)?;
-    Ok(step)
+    make_begin(alloc, &begin)
 }
 
 // A variable that begins as a value.
@@ -175,14 +193,14 @@ fn add_variable(
     env: &mut Env,
     locals: &mut Items<Ty>,
     name: &str,
-    ty: Ty,
+    ty: &Ty,
     local: u32,
 ) -> Result<(), AllocError>
-    ensures vars { OnOk result (env.new ≡ inside env.old (env.old.vars ++ variable name.now ty local ∷ [])) }
-    ensures locals { OnOk result (locals.new ≡ locals.old ++ ty ∷ []) }
+    ensures vars { OnOk result (env.new ≡ inside env.old (env.old.vars ++ variable name.now ty.now local ∷ [])) }
+    ensures locals { OnOk result (locals.new ≡ locals.old ++ ty.now ∷ []) }
 {
-    env.declare(name, ty, local)?;
-    locals.push(ty)?;
+    env.declare(name, *ty, local)?;
+    locals.push(*ty)?;
     Ok(())
 }
 
@@ -204,7 +222,7 @@ fn check_variable(
     let local = next_local(locals)?;
     push_begin(alloc, env, here, type_name, words, local, x, steps)?;
     let ty = variable_type(&x.mark, words);
-    add_variable(env, locals, x.name.text.as_str(), ty, local)?;
+    add_variable(env, locals, x.name.text.as_str(), &ty, local)?;
     Ok(())
 }
 
