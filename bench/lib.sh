@@ -12,7 +12,7 @@ mmc=${MMC:-$top/crates/mmc/out/mmc}
 if [ "${MMC:-}" = "" ]; then "$top/mmc" check "$top/examples/sum.cc" >/dev/null; fi
 
 # Runs a command in $work, whose output goes to `out` there and its messages to `said`; prints the
-# seconds and the kilobytes that it took at most.
+# processor seconds that it took, and the kilobytes that it held at most.
 measure() { (cd "$work" && "$programs/measure.py" "$@"); }
 
 # the seconds, and the kilobytes, of what `measure` printed
