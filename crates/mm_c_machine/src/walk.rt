@@ -1,5 +1,5 @@
-// Moves of the machine that take no step, and neither call nor leave a block. What comes first stays
-// at hand between them, and is put into the machine behind the last one alone.
+// Moves of the machine that take no step, and neither call nor leave a block. What comes first
+// stays at hand between them, and is put into the machine behind the last one alone.
 
 ghost use Rattle.std.specs.Prelude.{◌≡◌, List, length, IfOk, Option};
 ghost use Rattle.mm_base.specs.World as plain;
@@ -54,11 +54,7 @@ impl<'a> Machine<'a> {
         match self.value(a) {
             CValue::Int(z) => {
                 self.keep(more)?;
-                if z == 0 {
-                    Ok(Some(d))
-                } else {
-                    Ok(Some(b))
-                }
+                if z == 0 { Ok(Some(d)) } else { Ok(Some(b)) }
             }
             _ => Ok(None),
         }
