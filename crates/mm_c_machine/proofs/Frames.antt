@@ -1,7 +1,7 @@
 -- Frames on one list of values.
-use Rattle.std.proofs.Common.{◌≡◌, ℕ, zero, suc, ◌+◌, ◌-◌, ◌<◌, ◌≤◌, List, [], ◌∷◌, ◌++◌, length, get_or, take, drop, set, replicate, map, All, refl, append_assoc, sym, ap, ap₂, subst, ◌∙◌, arith}
+use Rattle.std.proofs.Common.{◌≡◌, ℕ, zero, suc, ◌+◌, ◌<◌, ◌≤◌, List, [], ◌∷◌, ◌++◌, length, get_or, take, drop, set, replicate, map, All, refl, append_assoc, sym, ap, ap₂, subst, ◌∙◌, arith}
 use Rattle.std.specs.Prelude.{if◌then◌else◌, nat_eq, pos}
-use Rattle.std.proofs.lemmas.List.{get_or-drop, take-set-le, drop-set-add, get_or_default, drop-append-le, append-nil, take_more, map-append, get_or-set_same, get_or-set_other, length-drop, length-append, length-replicate, length-set, length-map, take_all}
+use Rattle.std.proofs.lemmas.List.{get_or-drop, take-set-le, drop-set-add, get_or_default, drop-append-le, take_more, map-append, get_or-set_same, get_or-set_other, length-drop, length-append, length-set, length-map, take_all}
 use Rattle.mm_c.specs.declared.value.CValue.{CValue}
 use Rattle.mm_c.specs.declared.value.CValue.TheVariants.{Int}
 use Rattle.mm_c.specs.declared.tree.CKind.{CKind}
@@ -56,34 +56,6 @@ cleared_more (y ∷ xs) x vs = cleared_more xs x (set vs y.place (zero_of y.kind
 -- the place of a local among the values
 pub local_at : (values : List CValue) (base x : ℕ) (d : CValue) → base + x < length values → get_or values (base + x) d ≡ start (drop base values) x
 local_at values base x d lt = get_or_default values (base + x) d nought lt ∙ sym (get_or-drop base values x nought)
-
--- zeros go to the end while the length is below the wanted one
-pub record IsFilling (old : List CValue) (len : ℕ) (values : List CValue) : Type 0 where
-  pub n : ℕ
-  pub is : values ≡ old ++ replicate n nought
-  pub most : n ≤ len - length old
-
-pub filling_start : (old : List CValue) (len : ℕ) → IsFilling old len old
-filling_start old len = record { n = 0; is = sym (append-nil old); most = omega arith }
-
-zeros_more : (n : ℕ) → ◌++◌ {A = CValue} (replicate n nought) (nought ∷ []) ≡ replicate (suc n) nought
-zeros_more zero = refl
-zeros_more (suc n) = ap (λ q. nought ∷ q) (zeros_more n)
-
-pub filling_more : (old : List CValue) (len : ℕ) (values more : List CValue) → IsFilling old len values → length values < len → more ≡ values ++ nought ∷ [] → IsFilling old len more
-filling_more old len values more h lt e =
-    let long : length values ≡ length old + h.n = ap length h.is ∙ length-append old (replicate h.n nought) ∙ ap (λ q. length old + q) (length-replicate {A = CValue} h.n nought) in
-    record {
-      n = suc h.n;
-      is = e ∙ ap (λ q. q ++ nought ∷ []) h.is ∙ append_assoc old (replicate h.n nought) (nought ∷ []) ∙ ap (λ q. old ++ q) (zeros_more h.n);
-      most = omega (arith, long, lt);
-    }
-
-pub filling_end : (old : List CValue) (len : ℕ) (values : List CValue) → IsFilling old len values → len ≤ length values → values ≡ old ++ replicate (len - length old) nought
-filling_end old len values h le =
-    let long : length values ≡ length old + h.n = ap length h.is ∙ length-append old (replicate h.n nought) ∙ ap (λ q. length old + q) (length-replicate {A = CValue} h.n nought) in
-    let n : h.n ≡ len - length old = omega (arith, long, le, h.most) in
-    h.is ∙ ap (λ q. old ++ replicate q nought) n
 
 start_front : (xs ys : List CValue) (x : ℕ) → x < length xs → start (xs ++ ys) x ≡ start xs x
 start_front [] ys x h = absurd (let z : ⊥ = omega arith in z)

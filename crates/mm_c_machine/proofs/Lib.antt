@@ -9,3 +9,4 @@ pub mod Arrivals
 pub mod Statements
 pub mod Ways
 pub mod Running
+pub mod Walks

@@ -1,5 +1,6 @@
 -- A move, by the statement or the way on that stands first.
-use Rattle.std.proofs.Common.{◌≡◌, ◌<◌, List, [], ◌∷◌, length, Result, Ok, Err, refl, sym, ap, ◌∙◌, subst, arith, Bor}
+use Rattle.std.proofs.Math.Seq.{take-length}
+use Rattle.std.proofs.Common.{◌≡◌, ◌-◌, ◌<◌, ◌≤◌, List, [], ◌∷◌, length, get_or, take, drop, ap₂, Result, Ok, Err, refl, sym, ap, ◌∙◌, subst, arith}
 use Rattle.std.specs.Prelude.{IfOk}
 use Rattle.std.specs.declared.alloc.AllocError.{AllocError}
 use Rattle.mm_base.specs.World.{World}
@@ -8,7 +9,7 @@ use Rattle.mm_c.specs.CMeaning.{Stuck, Next}
 use Rattle.mm_c_placed.specs.declared.tree.Local.{Local}
 use Rattle.mm_c_placed.specs.declared.tree.PlacedStmt.{PlacedStmt}
 use Rattle.mm_c_placed.specs.Tree.{Stmt, locals, forever, Code, done, do_then, Program}
-use Rattle.mm_c_placed.specs.View.{code_view}
+use Rattle.mm_c_placed.specs.View.{stmt_view, code_view}
 use Rattle.mm_c_memory.specs.declared.memory.Memory.{Memory}
 use Rattle.mm_c_memory.specs.Held.{Holds}
 use Rattle.mm_c_machine.specs.Answers.{state}
@@ -49,12 +50,16 @@ done_goes p (went.Over (ending.Returned v)) l ps m w s' held w' h = record { sam
 done_goes p (went.Over (ending.Trapped t)) l ps m w s' held w' h = record { same = h.same; grows = h.grows }
 done_goes p (went.Over ending.Stuck) l ps m w s' held w' h = record { same = h.same; grows = h.grows }
 
-nothing : (ss : List PlacedStmt) → length ss < 1 → code (code_view ss) ≡ code done
+pub nothing : (ss : List PlacedStmt) → length ss < 1 → code (code_view ss) ≡ code done
 nothing [] short = refl
 nothing (s ∷ ss) short = absurd (let x : ⊥ = omega arith in x)
 
-pub code_empty : (h : Here) (d : Bor (List PlacedStmt)) → h ≡ here.Code d → length d.now < 1 → at_view h ≡ code done
-code_empty h d e short = ap at_view e ∙ nothing d.now short
+-- the first statement of some code, and those behind it
+pub front_of : (ss : List PlacedStmt) (s : PlacedStmt) → 1 ≤ length ss → s ≡ get_or ss 0 s → code_view ss ≡ do_then (stmt_view s) (code_view (take (length ss - 1) (drop 1 ss)))
+front_of [] s some is = absurd (let x : ⊥ = omega (arith, some) in x)
+front_of (x ∷ ss) s some is =
+    let n : length ss ≡ length (x ∷ ss) - 1 = omega arith in
+    ap₂ (λ q r. do_then (stmt_view q) (code_view r)) (sym is) (sym (take-length ss) ∙ ap (λ n. take n ss) n)
 
 pub done_arrives : (p : Program) (a : At) (l : Level) (ps : List Piece) (held held' : Memory) (w : World) (s' : Core) (result : Result Went AllocError) → a ≡ code done →
     IfOk result (λ went. (q : Program) (m : List c.Block) (u : World) → Holds m held → Goes q went (core (leaves Next) l ps) m u s' held' u) → IfOk result (λ went. (m : List c.Block) → Holds m held → Goes p went (core a l ps) m w s' held' w)

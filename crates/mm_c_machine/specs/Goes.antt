@@ -1,5 +1,6 @@
 -- The meaning of a machine, and of one move.
-use Rattle.std.specs.Prelude.{◌≡◌, ◌≢◌, ◌⊎◌, ℕ, suc, ◌<◌, Bool, true, false, List, [], ◌∷◌, length, Option, Some, None}
+use Rattle.std.specs.Borrow.{Bor}
+use Rattle.std.specs.Prelude.{◌≡◌, ◌≢◌, ◌⊎◌, ℕ, suc, ◌<◌, ◌≤◌, Bool, true, false, List, [], ◌∷◌, length, Option, Some, None}
 use Rattle.mm_base.specs.World.{World}
 use Rattle.mm_meaning.specs.Run.{Run, Gives, Stops, then, pure, within}
 use Rattle.mm_meaning.specs.Same.{IsFront}
@@ -7,6 +8,8 @@ use Rattle.mm_c.specs.declared.value.CValue.{CValue}
 use Rattle.mm_c.specs.declared.tree.CKind.{CKind}
 use Rattle.mm_c.specs.Memory as c
 use Rattle.mm_c.specs.CMeaning.{Stop, Trapped, Spent, Stuck, State, From, stuck, Flow}
+use Rattle.mm_c_placed.specs.declared.tree.PlacedStmt.{PlacedStmt}
+use Rattle.mm_c_placed.specs.View.{code_view}
 use Rattle.mm_c_placed.specs.Tree.{Code, forever, Function, Program}
 use Rattle.mm_c_placed.specs.Meaning.{Store, Around, Calls, around_of, plain_calls, all_calls, now, unless_left, next_turn, flow_of, flows_of, receive, callee_in, end_of}
 use Rattle.mm_c_memory.specs.declared.memory.Memory.{Memory}
@@ -74,6 +77,20 @@ pub record GoesFurther (p : Program) (s : Core) (m : List c.Block) (w : World) (
   pub less : weight p s' < weight p s
   pub ready : IsReadyCore s'
   pub grows : Grows w w'
+
+-- One move without a step, which the machine does beside its own record of what comes first: what
+-- does, or nothing where the machine is as before.
+abbrev pub Passes : Program → Option (Bor (List PlacedStmt)) → Core → List c.Block → World → Core → Core → Memory → Memory → Type 0
+Passes p (Some next) s m w s0 s1 held0 held = GoesFurther p s m w (with_at s1 (code (code_view next.now))) held w
+Passes p None s m w s0 s1 held0 held = (s1 ≡ s0) × (held ≡ held0)
+
+-- moves without a step, none or more
+pub record Walks (p : Program) (s : Core) (m : List c.Block) (w : World) (s' : Core) (held : Memory) : Type 0 where
+  pub to : List c.Block
+  pub holds : Holds to held
+  pub same : (k : ℕ) → means p s (state m w) k ≡ means p s' (state to w) k
+  pub less : weight p s' ≤ weight p s
+  pub ready : IsReadyCore s'
 
 -- one step was taken
 pub record Steps (p : Program) (s : Core) (m : List c.Block) (w : World) (s' : Core) (held : Memory) (w' : World) : Type 0 where

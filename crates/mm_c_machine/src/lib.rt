@@ -5,3 +5,4 @@ pub mod frame;
 pub mod machine;
 pub mod prelude;
 pub mod run;
+mod walk;

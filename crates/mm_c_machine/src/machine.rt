@@ -177,7 +177,7 @@ fn number_in(program: &PlacedProgram, array: u32, index: Option<i64>) -> Option<
 
 impl<'a> Machine<'a> {
     #[inline(always)]
-    fn value(&self, a: &Operand) -> CValue
+    pub(crate) fn value(&self, a: &Operand) -> CValue
         requires { IsInOperand (length (frame_of self.now)) a.now }
         ensures { result ≡ operand_of (start (frame_of self.now)) a.now }
     {
@@ -210,7 +210,7 @@ impl<'a> Machine<'a> {
 
     // What a right side gives, or nothing where it is stuck.
     #[inline(always)]
-    fn right(&self, program: &PlacedProgram, r: &Right) -> Option<CValue>
+    pub(crate) fn right(&self, program: &PlacedProgram, r: &Right) -> Option<CValue>
         requires { IsInRight (length (frame_of self.now)) r.now }
         ensures { (m : List c.Block) (w : plain.World) (calls : Calls) → Holds m self.now.memory → result ≡ value_in (around_of (program_view program.now) calls) (store_of (level_of self.now.frame self.now.values.items) (state m w)) r.now }
     {
@@ -230,7 +230,7 @@ impl<'a> Machine<'a> {
     }
 
     #[inline(always)]
-    fn set(&mut self, x: Local, v: CValue)
+    pub(crate) fn set(&mut self, x: Local, v: CValue)
         requires { x.place < length (frame_of self.old) }
         ensures core { seen self.new ≡ with_local (seen self.old) x v }
         ensures memory { self.new.memory ≡ self.old.memory }
@@ -264,14 +264,24 @@ impl<'a> Machine<'a> {
 }
 
 impl<'a> Machine<'a> {
+    // The rest of a block is to be done after what comes first.
+    #[inline(always)]
+    pub(crate) fn keep(&mut self, more: &'a [PlacedStmt]) -> Result<(), AllocError>
+        ensures core { OnOk result (seen self.new ≡ with_piece (seen self.old) (rest (code_view more.now))) }
+        ensures memory { self.new.memory ≡ self.old.memory }
+    {
+        self.pending.reserve(1)?;
+        self.pending.push_reserved(Pending::Rest(more));
+        Ok(())
+    }
+
     // Some code comes first, and then the rest of the block.
     #[inline(always)]
     fn branch(&mut self, first: &'a [PlacedStmt], more: &'a [PlacedStmt]) -> Result<(), AllocError>
         ensures core { OnOk result (seen self.new ≡ with_at (with_piece (seen self.old) (rest (code_view more.now))) (code (code_view first.now))) }
         ensures memory { self.new.memory ≡ self.old.memory }
     {
-        self.pending.reserve(1)?;
-        self.pending.push_reserved(Pending::Rest(more));
+        self.keep(more)?;
         self.here = Here::Code(first);
         Ok(())
     }
@@ -349,7 +359,7 @@ impl<'a> Machine<'a> {
     }
 
     // The arguments of a function of the prelude, and its answer.
-    #[inline]
+    #[inline(never)]
     fn ask(
         &mut self,
         alloc: Global,
@@ -371,7 +381,7 @@ impl<'a> Machine<'a> {
 
 impl<'a> Machine<'a> {
     // A call of a function of the prelude.
-    #[inline(never)]
+    #[inline(always)]
     fn give(
         &mut self,
         alloc: Global,
@@ -695,6 +705,28 @@ impl<'a> Machine<'a> {
         }
     }
 
+    // Some code is done as far as it goes by moves of a known way, and then by one move more.
+    #[inline(always)]
+    fn proceed(
+        &mut self,
+        alloc: Global,
+        program: &'a PlacedProgram,
+        world: &mut World,
+        stmts: &'a [PlacedStmt],
+    ) -> Result<Went, AllocError>
+        requires fits { IsReadyCore (with_at (seen self.old) (code (code_view stmts.now))) }
+        requires ready { IsReady (program_view program.now) }
+        requires held { (m : List c.Block) × Holds m self.old.memory }
+        ensures ok { IfOk result (λ went. (m : List c.Block) → Holds m self.old.memory → Goes (program_view program.now) went (with_at (seen self.old) (code (code_view stmts.now))) m (world_view world.old) (seen self.new) self.new.memory (world_view world.new)) }
+        ensures err { OnErr result (world_view world.new ≡ world_view world.old) }
+    {
+        let left = self.walk(program, stmts)?;
+        match left {
+            [] => self.arrive(Flow::Next),
+            [s, more @ ..] => self.exec(alloc, program, world, s, more),
+        }
+    }
+
     // One move.
     #[inline(always)]
     fn go(
@@ -710,10 +742,7 @@ impl<'a> Machine<'a> {
         ensures err { OnErr result (world_view world.new ≡ world_view world.old) }
     {
         match self.here {
-            Here::Code(code) => match code {
-                [] => self.arrive(Flow::Next),
-                [s, more @ ..] => self.exec(alloc, program, world, s, more),
-            },
+            Here::Code(stmts) => self.proceed(alloc, program, world, stmts),
             Here::Leaves(flow) => self.arrive(flow),
             Here::Stuck => Ok(Went::Over(Ending::Stuck)),
         }

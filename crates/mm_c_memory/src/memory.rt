@@ -70,12 +70,7 @@ pub fn zero_of(kind: CCell) -> CValue
 fn same_kind(a: CCell, b: CCell) -> bool
     ensures { result ≡ c.same_kind a b }
 {
-    match a {
-        CCell::Int => matches!(b, CCell::Int),
-        CCell::Unsigned => matches!(b, CCell::Unsigned),
-        CCell::Short => matches!(b, CCell::Short),
-        CCell::Pointer => matches!(b, CCell::Pointer),
-    }
+    a == b
 }
 
 #[inline(always)]

@@ -23,6 +23,7 @@ pub fn zero_of(kind: CKind) -> CValue
 }
 
 // `0`, by the kind of what receives it.
+#[inline(always)]
 fn zero_for(kind: CKind) -> CValue
     ensures { result ≡ m.zero_for kind }
 {
@@ -57,6 +58,7 @@ fn fitted_zero(kind: CKind, value: CValue) -> CValue
     }
 }
 
+#[inline(always)]
 fn kind_of(value: CValue) -> CKind
     ensures { result ≡ m.kind_of value }
 {
@@ -157,6 +159,7 @@ fn on_longs(operator: COperator, x: i32, y: i32) -> Option<CValue>
     }
 }
 
+#[inline(always)]
 fn same_pointer(p: CValue, q: CValue) -> bool
     ensures { result ≡ m.same_pointer p q }
 {
@@ -208,6 +211,7 @@ fn moved_in(block: usize, to: i64, size: Option<u32>) -> Option<CValue>
 }
 
 // An operator, the first operand of which is a pointer.
+#[inline(always)]
 fn on_pointers(memory: &Memory, operator: COperator, p: CValue, value: CValue) -> Option<CValue>
     ensures { (blocks : List c.Block) → Holds blocks memory.now → result ≡ m.on_pointers blocks operator p value }
 {
@@ -220,6 +224,7 @@ fn on_pointers(memory: &Memory, operator: COperator, p: CValue, value: CValue) -
 }
 
 // An operator on operands of one kind.
+#[inline(always)]
 fn on_alike(memory: &Memory, operator: COperator, x: CValue, y: CValue) -> Option<CValue>
     ensures { (blocks : List c.Block) → Holds blocks memory.now → result ≡ m.on_alike blocks operator x y }
 {
@@ -241,6 +246,7 @@ fn on_alike(memory: &Memory, operator: COperator, x: CValue, y: CValue) -> Optio
     }
 }
 
+#[inline(always)]
 fn beside(x: CValue, y: CValue) -> CValue
     ensures { result ≡ m.beside x y }
 {
@@ -267,6 +273,7 @@ pub fn operate(memory: &Memory, operator: COperator, x: CValue, y: CValue) -> Op
 }
 
 // An operator on any two values.
+#[inline(always)]
 fn operate_any(memory: &Memory, operator: COperator, x: CValue, y: CValue) -> Option<CValue>
     ensures { (blocks : List c.Block) → Holds blocks memory.now → result ≡ m.operate blocks operator x y }
 {
