@@ -136,7 +136,7 @@ pub fn check_return(
 {
     let x = check_expr(alloc, env, e)?;
     need(alloc, !is_void(&here.result), Code::S14, place, "return")?;
-    let value = as_type(alloc, here.result, e, x)?;
+    let value = as_type(alloc, env, here.result, e, x)?;
     Ok(CoreStmt::Return(Some(value)))
 }
 

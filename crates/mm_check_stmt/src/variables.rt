@@ -87,7 +87,7 @@ fn begin_value(
 {
     let value = check_expr(alloc, env, e)?;
     need_stand(alloc, env, here.outer, ty, &x.mark, &x.name)?;
-    let value = as_type(alloc, *ty, e, value)?;
+    let value = as_type(alloc, env, *ty, e, value)?;
     need_yours(alloc, &x.name)?;
     set_local(alloc, local, value)
 }

@@ -1,9 +1,9 @@
 -- The combinators of checks read those of relations, so each node of a tree has a law of one line.
 use Rattle.std.proofs.Common.{◌≡◌, Bool, true, false, refl, ap, inl, inr, ◌⊎◌}
-use Rattle.std.specs.Prelude.{Result, Ok, Err}
+use Rattle.std.specs.Prelude.{Option, Some, None, Result, Ok, Err}
 use Rattle.mm_checks.specs.declared.CheckEnd.{CheckEnd}
 use Rattle.mm_checks.specs.declared.CheckEnd.TheVariants as ends
-use Rattle.mm_checks.specs.Checks.{Fault, Checked, ◌>>=◌, at, demand, Then, First, Met, Unmet, ExactlyOne, Gives, Answers}
+use Rattle.mm_checks.specs.Checks.{Fault, Checked, ◌>>=◌, at, demand, wanted, Then, First, Met, Unmet, Is, IsMissing, ExactlyOne, Gives, Answers}
 use Rattle.mm_checks.specs.Reads.{Reads}
 
 module _ {A B : Type 0} where
@@ -32,6 +32,17 @@ module _ {A B : Type 0} where
 pub met : (b : Bool) (f : Fault) → Reads (demand b f) (Met b) (Unmet b f)
 met true f = record { is_typed = λ u e. refl; types = λ u t. refl; is_fault = λ g e. cc; faults = λ g t. cc (t.0) }
 met false f = record { is_typed = λ u e. cc; types = λ u t. cc (t); is_fault = λ g e. (refl, cc); faults = λ g t. ap Err t.1 }
+
+-- what is wanted
+module _ {A : Type 0} where
+  pub is_there : (o : Option A) (f : Fault) → Reads (wanted o f) (Is o) (IsMissing o f)
+  is_there (Some x) f = record {
+    is_typed = λ v e. let same : x ≡ v = cc in ap Some same;
+    types = λ v t. let same : x ≡ v = cc in ap Ok same;
+    is_fault = λ g e. cc;
+    faults = λ g t. cc (t.0);
+  }
+  is_there None f = record { is_typed = λ v e. cc; types = λ v t. cc (t); is_fault = λ g e. (refl, cc); faults = λ g t. ap Err t.1 }
 
 module _ {V : Type 0} where
   -- a value at the end

@@ -1,5 +1,5 @@
 -- What a check gives, as a function and as two relations: what is typed, and which is the first fault. Own.
-use Rattle.std.specs.Prelude.{◌≡◌, ℕ, Bool, true, false, List, Result, Ok, Err, ◌⊎◌}
+use Rattle.std.specs.Prelude.{◌≡◌, ℕ, Bool, true, false, List, Option, Some, None, Result, Ok, Err, ◌⊎◌}
 use Rattle.mm_base.specs.declared.code.Code.{Code}
 use Rattle.mm_base.specs.declared.place.Place.{Place}
 use Rattle.mm_checks.specs.declared.CheckEnd.{CheckEnd}
@@ -31,6 +31,11 @@ abbrev pub demand : Bool → Fault → Checked (Unit {0})
 demand true f = Ok tt
 demand false f = Err f
 
+-- what must be there, or else the fault
+abbrev pub wanted : {A : Type 0} → Option A → Fault → Checked A
+wanted (Some x) f = Ok x
+wanted None f = Err f
+
 -- ---- a check as two relations
 
 -- typed: the part is, and what goes on with its value
@@ -48,6 +53,14 @@ Met b u = b ≡ true
 -- a demand is not met, which is this fault
 abbrev pub Unmet : Bool → Fault → Fault → Type 0
 Unmet b f g = (b ≡ false) × (f ≡ g)
+
+-- what is wanted is there
+abbrev pub Is : {A : Type 0} → Option A → A → Type 0
+Is o x = o ≡ Some x
+
+-- what is wanted isn't there, which is this fault
+abbrev pub IsMissing : {A : Type 0} → Option A → Fault → Fault → Type 0
+IsMissing o f g = (o ≡ None) × (f ≡ g)
 
 -- there is one value and no fault, or one fault and no value
 abbrev pub ExactlyOne : {V : Type 0} → (V → Type 0) → (Fault → Type 0) → Type 0

@@ -1,5 +1,5 @@
 -- A table with one more class completed.
-use Rattle.std.proofs.Common.{◌≡◌, ℕ, ◌<◌, List, length, get_or, set, refl, subst, sym, ap, ◌∙◌, arith, length-set}
+use Rattle.std.proofs.Common.{◌≡◌, ℕ, List, get_or, set, refl, subst, sym, ap, ◌∙◌, arith, length-set}
 use Rattle.std.specs.Prelude.{true, String}
 use Rattle.std.proofs.lemmas.List.{map-set}
 use Rattle.mm_classes.specs.declared.class.Base.{Base}

@@ -1,8 +1,7 @@
 -- Entries and the classes that they stand for.
-use Rattle.std.proofs.Common.{◌≡◌, ℕ, ◌<◌, List, [], ◌∷◌, length, get_or, map, refl, sym, ap, ◌∙◌, arith}
+use Rattle.std.proofs.Common.{◌≡◌, ℕ, ◌<◌, List, [], length, get_or, refl, sym, ap, ◌∙◌, arith}
 use Rattle.std.proofs.lemmas.List.{length-map, get_or-map}
-use Rattle.mm_classes.specs.declared.class.Member.{Member}
-use Rattle.mm_classes.specs.Classes.{Class, class_at, members_of, unknown, IsClassList}
+use Rattle.mm_classes.specs.Classes.{Class, class_at, unknown, IsClassList}
 use Rattle.mm_class_table.specs.declared.entry.Entry.{Entry}
 use Rattle.mm_class_table.specs.Kept.{class_in, classes_in}
 

@@ -1,15 +1,15 @@
 -- A table with one more name.
-use Rattle.std.proofs.Common.{◌≡◌, ℕ, ◌-◌, ◌<◌, ◌≤◌, ◌^◌, List, [], ◌∷◌, ◌++◌, length, get_or, map, refl, sym, subst, ap, ◌∙◌, inl, inr, arith, length-append}
+use Rattle.std.proofs.Common.{◌≡◌, ℕ, ◌-◌, ◌<◌, ◌≤◌, ◌^◌, List, [], ◌∷◌, ◌++◌, length, get_or, map, refl, sym, subst, ap, ◌∙◌, arith, length-append}
 use Rattle.std.specs.Prelude.{true, false, cond, nat_lt, String, string_bytes, if◌then◌else◌, Some, position, ◌||◌}
 use Rattle.std.specs.Str.{bytes_eq}
 use Rattle.std.specs.String.{string_eq}
 use Rattle.std.specs.List.{list_any}
 use Rattle.std.proofs.lemmas.Slice.Eq.{bytes_eq-Decides}
-use Rattle.std.proofs.lemmas.List.{get_or_append_left, length-map, map-append, get_or-map}
+use Rattle.std.proofs.lemmas.List.{length-map, map-append, get_or-map}
 use Rattle.std.proofs.lemmas.List.Quantifiers.{position-Some}
 use Rattle.std.proofs.lemmas.Bool.Decides.{nat_tests}
 use Rattle.mm_classes.specs.Lists.{Has, first, later}
-use Rattle.mm_classes.specs.Classes.{Class, class_at, name_of, names_in, unknown, IsClassList}
+use Rattle.mm_classes.specs.Classes.{Class, name_of, names_in, unknown, IsClassList}
 use Rattle.mm_classes.specs.Adding.{fresh, IsNamed, declared}
 use Rattle.mm_classes.proofs.Declaring.{declared-valid}
 use Rattle.mm_classes.proofs.Answering.{Has-get_or}

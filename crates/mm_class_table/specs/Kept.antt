@@ -1,5 +1,5 @@
 -- What a table keeps, and the class list that it stands for. Own.
-use Rattle.std.specs.Prelude.{◌≡◌, ℕ, ◌<◌, ◌^◌, List, map, length, String, string_bytes}
+use Rattle.std.specs.Prelude.{◌≡◌, ◌<◌, ◌^◌, List, map, length, String, string_bytes}
 use Rattle.mm_classes.specs.Classes.{Class, IsClassList, names_in}
 use Rattle.mm_class_table.specs.declared.entry.Entry.{Entry}
 

@@ -1,12 +1,13 @@
 //! The table of all declared classes.
 
-ghost use Rattle.std.specs.Prelude.{◌≡◌, ◌<◌, ◌≤◌, ◌^◌, ◌-◌, ◌++◌, [], ◌∷◌, length, map, Bool, true, false, IfOk, OnOk, OnErr, string_bytes};
+ghost use Rattle.std.specs.Prelude.{◌≡◌, ◌<◌, ◌≤◌, ◌^◌, ◌-◌, ◌++◌, [], ◌∷◌, length, map, Bool, true, false, IfOk, IfSome, OnOk, OnErr, string_bytes};
 ghost use Rattle.std.specs.Bool.{Decides};
 ghost use Rattle.indexmap.specs.IndexSet.{contains_text};
 ghost use Rattle.mm_classes.specs.Classes.{IsClassList, IsMemberList, AreTyped, class_at, bases_of, members_of, name_of};
 ghost use Rattle.mm_classes.specs.Adding.{added, fresh, AreDeclared, CanAdd, IsNamed, declared};
 ghost use Rattle.mm_class_table.specs.declared.entry.Entry.{Entry};
 ghost use Rattle.mm_class_table.specs.Kept.{class_in};
+ghost use Rattle.mm_class_table.specs.Numbers.{number_of};
 
 use crate::entry::Entry;
 use indexmap::IndexSet;
@@ -146,6 +147,18 @@ impl ClassTable {
         ensures typed { AreTyped (length self.now) result.now }
     {
         self.entries[c.number as usize].members.as_slice()
+    }
+
+    /// The class that is declared by this name, or none.
+    pub fn find(&self, name: &str) -> Option<ClassId>
+        ensures number { result ≡ number_of self.now name.now }
+        ensures here { IfSome result
+            (λ c. (c < length self.now) × (name_of self.now c ≡ name.now)) }
+    {
+        let number = self.names.get_index_of(name)?;
+        Some(ClassId {
+            number: number as u32,
+        })
     }
 
     /// The number of a name: its own where it is declared already, and else that of a new class.

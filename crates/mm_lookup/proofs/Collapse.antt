@@ -79,7 +79,7 @@ module _ (g : List Class) (ok : IsClassList g) (law : HasAccess g) where
       (r.0, r.1, (let b = r.1.greatest h.links h.are h.lead in let m = h.much in omega arith))
 
   -- what is used in one of the first three cases, but for that of the class's own, is left protected at least
-  uses_sub : (f : Option ℕ) (n : ℕ) (q : Path) (a : Access) → UsesAt g f n q a → IsSubobject g n q
+  pub uses_sub : (f : Option ℕ) (n : ℕ) (q : Path) (a : Access) → UsesAt g f n q a → IsSubobject g n q
   uses_sub f n q a (everywhere h) = leaves_sub n q a 3 (from_access n q a (Some Public) 3 (omega arith) h)
   uses_sub f n q a (own x h e) = leaves_sub n q a 1 (from_access n q a (Some x) 1 (some_grade x) h)
   uses_sub f n q a (derived c r x e d h s k i) = leaves_sub n q a 2 (from_access n q a (Some Protected) 2 (omega arith) h)
@@ -132,7 +132,7 @@ module _ (g : List Class) (ok : IsClassList g) (law : HasAccess g) where
   ] refl
 
   -- a class that derives from another one is complete
-  derives_complete : (c b : ℕ) → Derives g c b → IsComplete g c
+  pub derives_complete : (c b : ℕ) → Derives g c b → IsComplete g c
   derives_complete c b (direct x h e) = has_complete c x h
   derives_complete c b (through x h d) = has_complete c x h
 

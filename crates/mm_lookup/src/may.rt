@@ -41,9 +41,9 @@ fn is_used_by(
     uses_at(graph, from, class, graph.part(n, step, at), declared)
 }
 
-// Whether a member of the subobject may be used where it is named in the class, whatever the object: at most one public
-// step leads to a base at which it may be used at once.
-fn may_use(graph: &Graph, from: &Context, n: ClassId, at: NodeId, declared: Access) -> bool
+/// Whether a member of the subobject that is declared with this access may be used where it is named in the class, whatever the
+/// object: at most one public step leads to a base at which it may be used at once.
+pub fn may_use(graph: &Graph, from: &Context, n: ClassId, at: NodeId, declared: Access) -> bool
     requires from { IfSome from.now.class (IsComplete graph.now) }
     requires complete { IsComplete graph.now n }
     requires valid { IsClassList graph.now }

@@ -11,8 +11,8 @@ use mm_classes::class::Ty;
 use mm_classes::id::ClassId;
 use mm_paths::graph::Graph;
 
-// Whether `b` is a direct or indirect base of `c`. A class that isn't complete has none.
-pub(crate) fn is_base_of(graph: &Graph, c: ClassId, b: ClassId) -> bool
+/// Whether `b` is a direct or indirect base of `c`. A class that isn't complete has none.
+pub fn is_base_of(graph: &Graph, c: ClassId, b: ClassId) -> bool
     ensures { result ≡ is_base graph.now c b }
 {
     // Asked here, so that the graph is known to be a class list.

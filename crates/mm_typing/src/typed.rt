@@ -13,6 +13,10 @@ pub enum Kind {
     Zero,
     /// The variable of this number, which may be assigned.
     Local(u32),
+    /// A field, which may be assigned. Its tree is that of the field's value.
+    Field,
+    /// An object, or a pointer that is the address of one: its tree is a reference, which is never null.
+    Object,
 }
 
 /// A checked expression, its type and its kind.
@@ -28,7 +32,7 @@ pub struct TypedExpr {
 pub enum Operation {
     And,
     Or,
-    /// Of arithmetic operands, after they are converted to one type.
+    /// Of operands that are converted to one type.
     Two(Operator),
 }
 

@@ -161,7 +161,7 @@ module _ (env : Environment) (n : ℕ) where
       record { deep = (let a = b.deep in omega arith); nested = (let a = b.nested in omega arith); few = (let a = b.few in omega arith) }
 
   as_within : (vs : List Var) (to : Ty) (e : syntax.Expr) (c : k.Expr) → size e ≤ n → TypesAs (inside env vs) to e c → IsWithin n c
-  as_within vs to e c le h = subst (IsWithin n) h.2.2 (wider (size e) n (converted to h.0) le (converted_within (size e) to h.0 (bounded (inside env vs) e h.0 h.1)))
+  as_within vs to e c le h = subst (IsWithin n) h.2.2.2 (wider (size e) n (converted env.classes to h.0) le (converted_within env.classes (size e) to h.0 (bounded (inside env vs) e h.0 h.1)))
 
   starts_bounded : (here : Here) (t : Ty) (vs : List Var) (m l : ℕ) (x : syntax.Declarator) (s : k.Stmt) → InitializerIsShort n x.initializer → Starts env here t vs l x.mark x.name x.initializer s → StmtIsBounded n m s
   starts_bounded here t vs m l x s r h = by x.initializer r h where

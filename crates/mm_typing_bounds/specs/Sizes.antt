@@ -5,14 +5,15 @@ use Rattle.mm_syntax.specs.Tree as t
 
 -- ---- expressions
 
--- the nodes of an expression; each has a token of its own
+-- the nodes of an expression, where a name behind `::`, `.` or `->` is one of its own; each has a
+-- token of its own
 abbrev mutual
   pub size : Expr → ℕ
   size (number p n) = 1
   size (boolean p b) = 1
   size (this p) = 1
   size (name p x) = 1
-  size (scoped p class word) = 1
+  size (scoped p class word) = 2
   size (cast p class a) = 1 + size a
   size (unary p op a) = 1 + size a
   size (step p a op at) = 1 + size a
@@ -22,7 +23,7 @@ abbrev mutual
   size (new p class) = 1
   size (make p class es) = 1 + sizes es
   size (call p e es) = 1 + size e + sizes es
-  size (member p a op at class word) = 1 + size a
+  size (member p a op at class word) = 2 + size a
 
   pub sizes : Exprs → ℕ
   sizes no_exprs = 0

@@ -1,171 +1,136 @@
 -- Calls of the chosen functions are valid.
-use Rattle.std.proofs.Common.{◌≡◌, ℕ, zero, suc, List, [], ◌∷◌, map, refl, sym, subst, ap, ◌∙◌, inl, inr}
-use Rattle.std.specs.Prelude.{Bool, true, false, if◌then◌else◌, Option, Some, None, is_some, option_map, slice_get, codes, filter}
+use Rattle.std.proofs.Common.{◌≡◌, ℕ, zero, suc, List, [], ◌∷◌, map, length, refl, sym, subst, ap, ◌∙◌, inl}
+use Rattle.std.specs.Prelude.{Bool, true, false, if◌then◌else◌, Option, Some, None, is_some, option_map, slice_get}
 use Rattle.std.specs.List.{list_any}
-use Rattle.std.specs.Str.{bytes_eq}
 use Rattle.std.proofs.lemmas.Option.{slice_get-map}
 use Rattle.mm_base.specs.declared.world.Builtin.{Builtin}
 use Rattle.mm_base.specs.declared.world.Builtin.TheVariants.{Put, Get, More}
 use Rattle.mm_classes.specs.declared.class.Ty.{Ty}
 use Rattle.mm_classes.specs.declared.class.Ty.TheVariants as ty
 use Rattle.mm_classes.specs.Lists.{Has, first, later}
-use Rattle.mm_classes.specs.Classes.{Class}
-use Rattle.mm_core.specs.Heads.{argument_types}
+use Rattle.mm_classes.specs.Classes.{IsTyped}
+use Rattle.mm_lookup.specs.declared.found.Context.{Context}
+use Rattle.mm_core.specs.Heads.{is_reference, owner_of, types_of_params, argument_types}
 use Rattle.mm_core.specs.Tree as k
 use Rattle.mm_core.specs.View.{exprs_of}
-use Rattle.mm_core.specs.Valid.{Around, is_arithmetic, types_asked, result_of_function, type_of, types_of, AreValid, AllSuit}
-use Rattle.mm_overload.specs.Rank.{rank_from, rank_of}
-use Rattle.mm_overload.specs.Choice.{viable, IsBest}
+use Rattle.mm_core.specs.Valid.{Around, types_asked, type_answered, result_of_function, types_of, AreValid, AllSuit, Suits}
+use Rattle.mm_overload.specs.Rank.{rank_of}
+use Rattle.mm_overload.specs.Choice.{viable}
+use Rattle.mm_scopes.specs.declared.head.Var.{Var}
 use Rattle.mm_scopes.specs.declared.head.FnHead.{FnHead}
 use Rattle.mm_scopes.specs.Environment.{Environment}
-use Rattle.mm_scopes.specs.Names.{named}
 use Rattle.mm_syntax.specs.Tree as t
-use Rattle.mm_typing.specs.Typed.{Typed, arg_of}
-use Rattle.mm_typing.specs.Conversions.{converts, converted, converted_all}
-use Rattle.mm_typing.specs.Calls.{Candidate, function, builtin, params_in, result_in, function_call, call_in, call_of, builtin_of, declared_or, declared, callable}
-use Rattle.mm_typing.specs.Typing.{NameCalls, Calls}
-use Rattle.mm_typing_valid.specs.Seen.{IsPlain, ArePlain, IsHeadOf, IsSeen}
-use Rattle.mm_typing_valid.specs.Expressions.{IsOf, IsSound}
-use Rattle.mm_typing_valid.proofs.Conversions.{both_true, no_void, converted_is, suits}
+use Rattle.mm_typing.specs.Typed.{Typed, given, shown, typed, arg_of}
+use Rattle.mm_typing.specs.Conversions.{converted_all}
+use Rattle.mm_typing.specs.Objects.{moved}
+use Rattle.mm_typing.specs.Calls.{Candidate, function, builtin, params_in, Receiver, Callee, declarer, BasesFit, function_call, call_in, call_of}
+use Rattle.mm_typing.specs.Typing.{CallTypes}
+use Rattle.mm_typing_valid.specs.Seen.{IsHeadOf, IsOutside, IsMethodOf, IsSeen}
+use Rattle.mm_typing_valid.specs.Expressions.{IsOf, as_object, IsSound}
+use Rattle.mm_typing_valid.proofs.Conversions.{both_true, tree_suits, converted_is, not_to_void}
+use Rattle.mm_typing_valid.proofs.Meanings.{inside, env_of, IsThere, AllThere, IsReceiver, IsCallee, moved_is}
 
-inside : {X : Type 0} {x y : X} → Some x ≡ Some y → x ≡ y
-inside e = cc
-
--- a conversion that has a rank is one between arithmetic types, where both types are plain
-rank_converts : (g : List Class) (z lvalue : Bool) (from to : Ty) → IsPlain from → IsPlain to → is_some (rank_from g z lvalue from to) ≡ true → converts from to ≡ true
-rank_converts g z lvalue ty.Void ty.Void p q e = cc
-rank_converts g z lvalue ty.Void ty.Bool p q e = cc
-rank_converts g z lvalue ty.Void ty.Int p q e = cc
-rank_converts g z lvalue ty.Void ty.Unsigned p q e = cc
-rank_converts g z lvalue ty.Void (ty.Ptr d) p q e = cc
-rank_converts g z lvalue ty.Void (ty.Ref d) p q e = cc
-rank_converts g z lvalue ty.Bool ty.Void p q e = cc
-rank_converts g z lvalue ty.Bool ty.Bool p q e = refl
-rank_converts g z lvalue ty.Bool ty.Int p q e = refl
-rank_converts g z lvalue ty.Bool ty.Unsigned p q e = refl
-rank_converts g z lvalue ty.Bool (ty.Ptr d) p q e = cc
-rank_converts g z lvalue ty.Bool (ty.Ref d) p q e = cc
-rank_converts g z lvalue ty.Int ty.Void p q e = cc
-rank_converts g z lvalue ty.Int ty.Bool p q e = refl
-rank_converts g z lvalue ty.Int ty.Int p q e = refl
-rank_converts g z lvalue ty.Int ty.Unsigned p q e = refl
-rank_converts g z lvalue ty.Int (ty.Ptr d) p q e = cc
-rank_converts g z lvalue ty.Int (ty.Ref d) p q e = cc
-rank_converts g z lvalue ty.Unsigned ty.Void p q e = cc
-rank_converts g z lvalue ty.Unsigned ty.Bool p q e = refl
-rank_converts g z lvalue ty.Unsigned ty.Int p q e = refl
-rank_converts g z lvalue ty.Unsigned ty.Unsigned p q e = refl
-rank_converts g z lvalue ty.Unsigned (ty.Ptr d) p q e = cc
-rank_converts g z lvalue ty.Unsigned (ty.Ref d) p q e = cc
-rank_converts g z lvalue (ty.Ptr c) to p q e = cc
-rank_converts g z lvalue (ty.Ref c) to p q e = cc
+-- a list of arguments is typed and sound, one by one
+abbrev pub AllSound : Around → List ℕ → t.Exprs → List Typed → Type 0
+AllSound a known t.no_exprs [] = Unit {0}
+AllSound a known t.no_exprs (x ∷ xs) = ⊥
+AllSound a known (t.expr_and e es) [] = ⊥
+AllSound a known (t.expr_and e es) (x ∷ xs) = IsSound a known x × AllSound a known es xs
 
 module _ (a : Around) (known : List ℕ) where
-  abbrev pub AllSound : List Typed → Type 0
-  AllSound [] = Unit {0}
-  AllSound (x ∷ xs) = IsSound a known x × AllSound xs
+  -- a value of a type that is no reference
+  pub value_is : (e : k.Expr) (t : Ty) → is_reference t ≡ false → IsTyped (length a.classes) t → IsOf a known e t → IsSound a known (typed e t)
+  value_is e t n w o = record { of = o; typed = w; value = λ q. n; place = λ l q. cc }
 
-  args_valid : (g : List Class) (ps : List Ty) (xs : List Typed) → ArePlain ps → viable g (map arg_of xs) ps ≡ true → AllSound xs → AllSuit (types_of a (exprs_of (converted_all ps xs))) ps × AreValid a known (exprs_of (converted_all ps xs))
-  args_valid g [] [] q v h = (tt, tt)
-  args_valid g [] (x ∷ xs) q v h = cc
-  args_valid g (p ∷ ps) [] q v h = cc
-  args_valid g (p ∷ ps) (x ∷ xs) q v h =
-      let w = both_true (is_some (rank_of g (arg_of x) p)) (viable g (map arg_of xs) ps) v in
-      let c = rank_converts g (arg_of x).zero (arg_of x).lvalue x.ty p h.0.plain q.0 w.0 in
-      let o = converted_is a known p x c h.0.of in
-      let rest = args_valid g ps xs q.1 w.1 h.1 in
-      ((suits (type_of a (converted p x)) p o.0 (no_void p (both_true (is_arithmetic x.ty) (is_arithmetic p) c).1), rest.0), (o.1, rest.1))
+  -- what a call gives
+  given_is : (e : k.Expr) (t : Ty) → IsTyped (length a.classes) t → IsOf a known e t → IsSound a known (given e t)
+  given_is e t w o = by (is_reference t) refl where
+    itself : (u : Ty) → is_reference u ≡ true → u ≡ as_object u
+    itself ty.Void q = cc
+    itself ty.Bool q = cc
+    itself ty.Int q = cc
+    itself ty.Unsigned q = cc
+    itself (ty.Ptr c) q = cc
+    itself (ty.Ref c) q = refl
 
-  -- what may be called is built in, or a function that is there
-  abbrev pub IsThere : Candidate → Type 0
-  IsThere (function h) = IsHeadOf a h
-  IsThere (builtin b) = Unit {0}
+    by : (b : Bool) → is_reference t ≡ b → IsSound a known (if b then shown e t else typed e t)
+    by true q = record { of = subst (IsOf a known e) (itself t q) o; typed = w; value = λ z. cc; place = λ l z. cc }
+    by false q = value_is e t q w o
 
-  abbrev AllThere : List Candidate → Type 0
-  AllThere [] = Unit {0}
-  AllThere (c ∷ cs) = IsThere c × AllThere cs
+  module _ (from : Context) (vars : List Var) (heads : List FnHead) (seen : IsSeen a known (env_of a known from vars heads)) where
+    abbrev env : Environment
+    env = env_of a known from vars heads
 
-  params_plain : (c : Candidate) → IsThere c → IsPlain (result_in c) × ArePlain (params_in c)
-  params_plain (function h) s = s.plain
-  params_plain (builtin Put) s = (refl, (refl, tt))
-  params_plain (builtin Get) s = (refl, tt)
-  params_plain (builtin More) s = (refl, tt)
+    args_valid : (es : t.Exprs) (ps : List Ty) (xs : List Typed) (w : Unit {0}) → ((p : Ty) → Has ps p → IsTyped (length a.classes) p) → viable a.classes (map arg_of xs) ps ≡ true → BasesFit env ps es xs w → AllSound a known es xs
+        → AllSuit (types_of a (exprs_of (converted_all a.classes ps xs))) ps × AreValid a known (exprs_of (converted_all a.classes ps xs))
+    args_valid t.no_exprs [] [] w q v b h = (tt, tt)
+    args_valid t.no_exprs (p ∷ ps) [] w q v b h = cc
+    args_valid t.no_exprs ps (x ∷ xs) w q v b h = absurd h
+    args_valid (t.expr_and e es) ps [] w q v b h = absurd h
+    args_valid (t.expr_and e es) [] (x ∷ xs) w q v b h = cc
+    args_valid (t.expr_and e es) (p ∷ ps) (x ∷ xs) w q v b h =
+        let n = both_true (is_some (rank_of a.classes (arg_of x) p)) (viable a.classes (map arg_of xs) ps) v in
+        let o = converted_is a known seen.list seen.up p x n.0 b.1.1 (q p (first refl)) h.0.of in
+        let rest = args_valid es ps xs w (λ u m. q u (later m)) n.1 b.2 h.1 in
+        ((subst (λ u. Suits u p) (sym o.0) (tree_suits x.kind p (not_to_void a known seen.list seen.up p x n.0)), rest.0), (o.1, rest.1))
 
-  function_valid : (h : FnHead) (es : List k.Expr) → IsHeadOf a h → AllSuit (types_of a (exprs_of es)) h.params → AreValid a known (exprs_of es) → IsOf a known (function_call h es) h.result
-  function_valid h es s suit valid = by (list_any (λ v. v) h.virtuals) refl where
-    fits : AllSuit (types_of a (exprs_of es)) (argument_types a.classes s.function)
-    fits = subst (AllSuit (types_of a (exprs_of es))) (sym s.params) suit
+    -- ---- the functions that are called
 
-    result : result_of_function (slice_get a.functions h.number) ≡ h.result
-    result = ap result_of_function s.there ∙ s.result
+    arguments_outside : (f : k.Function) → f.member ≡ false → argument_types a.classes f ≡ types_of_params f.params
+    arguments_outside f e = rw e refl
 
-    by : (o : Bool) → list_any (λ v. v) h.virtuals ≡ o → IsOf a known (if o then k.open_call h.number (exprs_of es) else k.call h.number (exprs_of es)) h.result
-    by true e = (result, ((s.function, s.there, s.opened ∙ e, s.called, fits), valid))
-    by false e = (result, ((s.function, s.there, s.opened ∙ e, s.called, fits), valid))
+    arguments_inside : (f : k.Function) (d : ℕ) → f.member ≡ true → owner_of a.classes f ≡ Some d → argument_types a.classes f ≡ ty.Ref d ∷ types_of_params f.params
+    arguments_inside f d e o = rw (e, o) refl
 
-  call_valid : (c : Candidate) (xs : List Typed) (g : List Class) → IsThere c → viable g (map arg_of xs) (params_in c) ≡ true → AllSound xs → IsOf a known (call_in c (converted_all (params_in c) xs)) (result_in c)
-  call_valid (function h) xs g s v h' =
-      let r = args_valid g h.params xs s.plain.1 v h' in
-      function_valid h (converted_all h.params xs) s r.0 r.1
-  call_valid (builtin b) xs g s v h' = (refl, args_valid g (types_asked b) xs (params_plain (builtin b) s).1 v h')
+    result_is : (h : FnHead) (s : IsHeadOf a h) → result_of_function (slice_get a.functions h.number) ≡ h.result
+    result_is h s = ap result_of_function s.there ∙ s.result
 
-  -- ---- which candidates there are
-  heads_there : (hs : List FnHead) → ((h : FnHead) → Has hs h → IsHeadOf a h) → AllThere (map function hs)
-  heads_there [] s = tt
-  heads_there (h ∷ hs) s = (s h (first refl), heads_there hs (λ x m. s x (later m)))
+    function_valid : (h : FnHead) (es : List k.Expr) → IsHeadOf a h → IsOutside a h → AllSuit (types_of a (exprs_of es)) h.params → AreValid a known (exprs_of es) → IsOf a known (function_call h es) h.result
+    function_valid h es s out suit valid = by (list_any (λ v. v) h.virtuals) refl where
+      fits : AllSuit (types_of a (exprs_of es)) (argument_types a.classes s.function)
+      fits = subst (AllSuit (types_of a (exprs_of es))) (sym (arguments_outside s.function (out s.function s.there) ∙ s.params)) suit
 
-  from_if : (b : Bool) (x : FnHead) (ys xs : List FnHead) (h : FnHead) → (Has ys h → Has xs h) → Has (if b then x ∷ ys else ys) h → Has (x ∷ xs) h
-  from_if true x ys xs h f (first e) = first e
-  from_if true x ys xs h f (later n) = later (f n)
-  from_if false x ys xs h f n = later (f n)
+      by : (o : Bool) → list_any (λ v. v) h.virtuals ≡ o → IsOf a known (if o then k.open_call h.number (exprs_of es) else k.call h.number (exprs_of es)) h.result
+      by true e = (result_is h s, ((s.function, s.there, s.opened ∙ e, s.called, fits), valid))
+      by false e = (result_is h s, ((s.function, s.there, s.opened ∙ e, s.called, fits), valid))
 
-  from_filter : (p : FnHead → Bool) (hs : List FnHead) (h : FnHead) → Has (filter p hs) h → Has hs h
-  from_filter p [] h m = m
-  from_filter p (x ∷ xs) h m = from_if (p x) x (filter p xs) xs h (from_filter p xs h) m
+    method_valid : (h : FnHead) (r : Receiver) (es : List k.Expr) → IsHeadOf a h → IsMethodOf a h (declarer a.classes r) → IsReceiver a known (Some r) → AllSuit (types_of a (exprs_of es)) h.params → AreValid a known (exprs_of es)
+        → IsOf a known (k.call h.number (exprs_of (moved r.of.naming r.node r.of.tree ∷ es))) h.result
+    method_valid h r es s is there suit valid =
+        let d = declarer a.classes r in
+        let m = is s.function s.there in
+        let this = moved_is a known from vars heads seen r.of r.node there.0 there.1 in
+        let types : argument_types a.classes s.function ≡ ty.Ref d ∷ h.params = arguments_inside s.function d m.0 m.1 ∙ ap (λ ps. ty.Ref d ∷ ps) s.params in
+        let fits = subst (AllSuit (types_of a (exprs_of (moved r.of.naming r.node r.of.tree ∷ es)))) (sym types) (((λ e. cc), inl this.0), suit) in
+        (result_is h s, ((s.function, s.there, m.2, s.called, fits), (this.1, valid)))
 
-  declared_there : (o : Option Builtin) (hs : List FnHead) → ((h : FnHead) → Has hs h → IsHeadOf a h) → AllThere (declared_or o hs)
-  declared_there (Some b) hs s = (tt, tt)
-  declared_there None hs s = heads_there hs s
+    builtin_typed : (b : Builtin) → ((p : Ty) → Has (types_asked b) p → IsTyped (length a.classes) p) × IsTyped (length a.classes) (type_answered b)
+    builtin_typed Put = ((λ p m. elim m [ first e ↦ subst (IsTyped (length a.classes)) e tt | later n ↦ elim n [ ] ]), tt)
+    builtin_typed Get = ((λ p m. elim m [ ]), tt)
+    builtin_typed More = ((λ p m. elim m [ ]), tt)
 
-  module _ (env : Environment) (seen : IsSeen a env) where
-    callable_there : (x : List ℕ) → AllThere (callable env x)
-    callable_there x = by (bytes_eq x (codes "main")) where
-      by : (b : Bool) → AllThere (if b then [] else declared env x)
-      by true = tt
-      by false = declared_there (builtin_of x) (named x env.functions) (λ h m. seen.functions h (from_filter (λ f. bytes_eq f.name x) env.functions h m))
+    call_valid : (c : Candidate) (r : Option Receiver) (es : t.Exprs) (xs : List Typed) (w : Unit {0}) → IsReceiver a known r → IsThere a known r c → viable a.classes (map arg_of xs) (params_in c) ≡ true → BasesFit env (params_in c) es xs w → AllSound a known es xs
+        → IsSound a known (call_of a.classes r c xs)
+    call_valid (function h) None es xs w there s v b sound =
+        let args = args_valid es h.params xs w s.0.params_typed v b sound in
+        given_is (function_call h (converted_all a.classes h.params xs)) h.result s.0.typed (function_valid h (converted_all a.classes h.params xs) s.0 s.1 args.0 args.1)
+    call_valid (function h) (Some r) es xs w there s v b sound =
+        let args = args_valid es h.params xs w s.0.params_typed v b sound in
+        given_is (call_in (function h) (Some r) (converted_all a.classes h.params xs)) h.result s.0.typed (method_valid h r (converted_all a.classes h.params xs) s.0 s.1 there args.0 args.1)
+    call_valid (builtin f) r es xs w there s v b sound =
+        let args = args_valid es (types_asked f) xs w (builtin_typed f).0 v b sound in
+        given_is (k.builtin f (exprs_of (converted_all a.classes (types_asked f) xs))) (type_answered f) (builtin_typed f).1 (refl, args)
 
-    name_there : (x : List ℕ) (cs : List Candidate) → NameCalls env x (Some cs) → AllThere cs
-    name_there x cs (inl h) = absurd (let e = h.1.1 in cc)
-    name_there x cs (inr h) = subst AllThere (inside h.1.1) (callable_there x)
+    there_at : (r : Option Receiver) (cs : List Candidate) (i : ℕ) (c : Candidate) → AllThere a known r cs → slice_get cs i ≡ Some c → IsThere a known r c
+    there_at r [] i c h e = cc
+    there_at r (d ∷ cs) zero c h e = subst (IsThere a known r) (inside e) h.0
+    there_at r (d ∷ cs) (suc i) c h e = there_at r cs i c h.1 e
 
-    called_there : (e : t.Expr) (T : Typed → Type 0) (cs : List Candidate) → Calls env e T (Some cs) → AllThere cs
-    called_there (t.name p x) T cs h = name_there x cs h
-    called_there (t.number p n) T cs h = absurd (let e = h.2 in cc)
-    called_there (t.boolean p b) T cs h = absurd (let e = h.2 in cc)
-    called_there (t.this p) T cs h = absurd (let e = h.2 in cc)
-    called_there (t.scoped p class word) T cs h = absurd (let e = h.2 in cc)
-    called_there (t.cast p class b) T cs h = absurd (let e = h.2 in cc)
-    called_there (t.unary p op b) T cs h = absurd (let e = h.2 in cc)
-    called_there (t.step p b op at) T cs h = absurd (let e = h.2 in cc)
-    called_there (t.binary p b op at d) T cs h = absurd (let e = h.2 in cc)
-    called_there (t.choose p c at b d) T cs h = absurd (let e = h.2 in cc)
-    called_there (t.assign p b op at d) T cs h = absurd (let e = h.2 in cc)
-    called_there (t.new p class) T cs h = absurd (let e = h.2 in cc)
-    called_there (t.make p class es) T cs h = absurd (let e = h.2 in cc)
-    called_there (t.call p e es) T cs h = absurd (let e = h.2 in cc)
-    called_there (t.member p b op at class word) T cs h = absurd (let e = h.2 in cc)
-
-    there_at : (cs : List Candidate) (i : ℕ) (c : Candidate) → AllThere cs → slice_get cs i ≡ Some c → IsThere c
-    there_at [] i c h e = cc
-    there_at (d ∷ cs) zero c h e = subst IsThere (inside e) h.0
-    there_at (d ∷ cs) (suc i) c h e = there_at cs i c h.1 e
-
-    pub chosen_valid : (e : t.Expr) (T : Typed → Type 0) (cs : List Candidate) (xs : List Typed) (i : ℕ) (c : Candidate) → Calls env e T (Some cs) → IsBest env.classes (map arg_of xs) (map params_in cs) i → slice_get cs i ≡ Some c → AllSound xs → IsSound a known (call_of c xs)
-    chosen_valid e T cs xs i c h b is sound =
-        let s = there_at cs i c (called_there e T cs h) is in
-        let params : b.params ≡ params_in c = inside (sym b.is ∙ slice_get-map params_in cs i ∙ ap (option_map params_in) is) in
-        record {
-          of = call_valid c xs env.classes s (subst (λ ps. viable env.classes (map arg_of xs) ps ≡ true) params b.fits) sound;
-          plain = (params_plain c s).0;
-          place = λ l e. cc;
-        }
+    pub call_sound : (c : Callee) (es : t.Exprs) (xs : List Typed) (v : Typed) → IsCallee a known c → CallTypes env (Some c) es xs v → AllSound a known es xs → IsSound a known v
+    call_sound c es xs v is h sound =
+        let f = h.0 in
+        let best = h.1.1.0 in
+        let at = h.1.1.1 in
+        let params : best.params ≡ params_in f = inside (sym best.is ∙ slice_get-map params_in c.candidates h.1.0 ∙ ap (option_map params_in) at) in
+        subst (IsSound a known) h.2.2.2
+        (call_valid f c.receiver es xs h.2.2.0 is.receiver (there_at c.receiver c.candidates h.1.0 f is.there at) (subst (λ ps. viable a.classes (map arg_of xs) ps ≡ true) params best.fits) h.2.2.1 sound)

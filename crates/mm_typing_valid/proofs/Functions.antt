@@ -9,6 +9,11 @@ use Rattle.std.proofs.lemmas.List.Quantifiers.{all_pairs_push}
 use Rattle.std.proofs.lemmas.Option.{get_or_from_slice_get, slice_get-get_or}
 use Rattle.mm_classes.specs.declared.class.Ty.{Ty}
 use Rattle.mm_classes.specs.Lists.{Has, first, later}
+use Rattle.mm_classes.specs.Classes.{members_of, IsClassList, IsComplete, IsTyped}
+use Rattle.mm_classes.specs.Questions.{IsUpOf}
+use Rattle.mm_lookup.specs.Lookup.{Finds}
+use Rattle.mm_answers.specs.Up.{up_of}
+use Rattle.mm_answers.specs.Finding.{found_of}
 use Rattle.mm_classes.proofs.Lists.{Has-append}
 use Rattle.mm_core.specs.declared.part.CoreParam.{CoreParam}
 use Rattle.mm_core.specs.Heads.{type_code, same_type, same_types, types_of_params, argument_types}
@@ -20,9 +25,11 @@ use Rattle.mm_core.proofs.Returning.{same_is}
 use Rattle.mm_scopes.specs.declared.head.FnHead.{FnHead}
 use Rattle.mm_syntax.specs.declared.name.Name.{Name}
 use Rattle.mm_unit_typing.specs.Declarators.{is_reserved}
-use Rattle.mm_unit_typing.specs.Functions.{Heading, is_function, number_of, known, agrees, may_declare, core_param, declared_function, with_function, defined_with, with_body, never, head_of, heads_from}
-use Rattle.mm_typing_valid.specs.Seen.{IsPlain, ArePlain, IsHeadOf}
-use Rattle.mm_typing_valid.proofs.Conversions.{arithmetic_plain}
+use Rattle.mm_unit_typing.specs.Functions.{Heading, is_function, number_of, known, agrees, may_declare, core_param, declared_function, with_function, defined_with, with_body, never, head_of, heads_from, seen}
+use Rattle.mm_typing_valid.specs.Seen.{IsPlain, IsHeadOf, IsOutside}
+use Rattle.mm_typing_valid.specs.Statements.{IsAround}
+use Rattle.mm_typing_valid.proofs.Conversions.{arithmetic_plain, plain_typed}
+use Rattle.mm_typing_valid.proofs.NoClasses.{no_classes, up_none, found_none}
 use Rattle.mm_typing_valid.proofs.Variables.{AllArithmetic}
 use Rattle.mm_typing_valid.proofs.Heads.{params_types, params_count, params_are}
 
@@ -159,9 +166,12 @@ pub no_virtual : (qs : List CoreParam) → ((q : CoreParam) → Has qs q → (is
 no_virtual [] f = refl
 no_virtual (q ∷ qs) f = rw ((f q (first refl)).1, no_virtual qs (λ r m. f r (later m))) refl
 
-all_plain : (qs : List CoreParam) → ((q : CoreParam) → Has qs q → (is_arithmetic q.ty ≡ true) × (q.is_virtual ≡ false)) → ArePlain (types_of_params qs)
-all_plain [] f = tt
-all_plain (q ∷ qs) f = (arithmetic_plain q.ty (f q (first refl)).0, all_plain qs (λ r m. f r (later m)))
+params_typed : (n : ℕ) (qs : List CoreParam) → ((q : CoreParam) → Has qs q → (is_arithmetic q.ty ≡ true) × (q.is_virtual ≡ false)) → (t : Ty) → Has (types_of_params qs) t → IsTyped n t
+params_typed n [] f t m = elim m [ ]
+params_typed n (q ∷ qs) f t m = elim m [
+  | first e ↦ subst (IsTyped n) e (plain_typed n q.ty (arithmetic_plain q.ty (f q (first refl)).0))
+  | later k ↦ params_typed n qs (λ r m. f r (later m)) t k
+]
 
 never_any : (ts : List Ty) → list_any (λ v. v) (never ts) ≡ false
 never_any [] = refl
@@ -171,20 +181,50 @@ pub arguments_are : (f : k.Function) → f.member ≡ false → argument_types [
 arguments_are f e = rw e refl
 
 -- in a program that extends the functions, each head that is seen is that of a function of the program
-pub seen_heads : (a : Around) (fs : List k.Function) → a.classes ≡ [] → ((f : k.Function) → IsTrue (a.callable f)) → Extends fs a.functions → ((f : k.Function) → Has fs f → IsFine f) → (h : FnHead) → Has (heads_from 0 fs) h → IsHeadOf a h
-seen_heads a fs none call ext fine h m =
-    let r = heads_are 0 fs h m in
-    let g = ext r.0 r.1 r.2 in
-    let ok = fine r.1 (slice-Has fs r.0 r.1 r.2) in
-    subst (IsHeadOf a) (ap (λ j. head_of j r.1) (let z : r.0 ≡ 0 + r.0 = omega arith in z) ∙ r.3) (record {
-      function = g.0;
-      there = g.1;
-      called = call g.0;
-      opened = ap (list_any (λ (q : CoreParam). q.is_virtual)) (sym g.2.params) ∙ no_virtual r.1.params ok.params ∙ sym (never_any (types_of_params r.1.params));
-      params = ap (λ c. argument_types c g.0) none ∙ arguments_are g.0 (sym g.2.member ∙ ok.outside) ∙ ap types_of_params (sym g.2.params);
-      result = sym g.2.result;
-      plain = (ok.plain, all_plain r.1.params ok.params);
-    })
+module _ (a : Around) (fs : List k.Function) (none : a.classes ≡ []) (call : (f : k.Function) → IsTrue (a.callable f)) (ext : Extends fs a.functions) (fine : (f : k.Function) → Has fs f → IsFine f) where
+  seen_heads : (h : FnHead) → Has (heads_from 0 fs) h → IsHeadOf a h
+  seen_heads h m =
+      let r = heads_are 0 fs h m in
+      let g = ext r.0 r.1 r.2 in
+      let ok = fine r.1 (slice-Has fs r.0 r.1 r.2) in
+      subst (IsHeadOf a) (ap (λ j. head_of j r.1) (let z : r.0 ≡ 0 + r.0 = omega arith in z) ∙ r.3) (record {
+        function = g.0;
+        there = g.1;
+        called = call g.0;
+        opened = ap (list_any (λ (q : CoreParam). q.is_virtual)) (sym g.2.params) ∙ no_virtual r.1.params ok.params ∙ sym (never_any (types_of_params r.1.params));
+        params = ap types_of_params (sym g.2.params);
+        result = sym g.2.result;
+        typed = plain_typed (length a.classes) r.1.result ok.plain;
+        params_typed = params_typed (length a.classes) r.1.params ok.params;
+      })
+
+  seen_outside : (h : FnHead) → Has (heads_from 0 fs) h → IsOutside a h
+  seen_outside h m =
+      let r = heads_are 0 fs h m in
+      let g = ext r.0 r.1 r.2 in
+      let ok = fine r.1 (slice-Has fs r.0 r.1 r.2) in
+      subst (IsOutside a) (ap (λ j. head_of j r.1) (let z : r.0 ≡ 0 + r.0 = omega arith in z) ∙ r.3)
+      (λ f e. let same : g.0 ≡ f = (let q : Some g.0 ≡ Some f = sym g.1 ∙ e in cc) in subst (λ (x : k.Function). x.member ≡ false) same (sym g.2.member ∙ ok.outside))
+
+  no_class : (c : ℕ) → IsComplete a.classes c → ⊥
+  no_class c h = let l = h.0 in let e : length a.classes ≡ 0 = ap length none in let z : ⊥ = omega arith in z
+
+  -- what is seen behind the declarations of functions, in a unit without classes
+  pub seen_around : IsAround a (seen fs)
+  seen_around = record {
+    seen = λ known. record {
+      classes = sym none;
+      list = subst IsClassList (sym none) no_classes;
+      up = λ c b. subst (λ g. IsUpOf (up_of g c b) g c b) (sym none) (up_none c b);
+      found = λ c x. subst (λ g. Finds g c x (found_of g c x)) (sym none) (found_none c x);
+      fields = λ c m h. absurd (let z : Has (members_of [] c) m = subst (λ g. Has (members_of g c) m) none h in elim z [ ]);
+      this_in = λ c e. cc;
+      vars = λ v m. elim m [ ];
+      functions = seen_heads;
+      methods = λ h d x m done e. absurd (no_class d done);
+    };
+    outside = λ x h m e. seen_outside h m;
+  }
 
 -- ---- functions that are declared
 

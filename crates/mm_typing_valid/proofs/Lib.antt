@@ -1,5 +1,11 @@
+pub mod Nodes
 pub mod Conversions
+pub mod Meanings
 pub mod Calls
+pub mod Operators
+pub mod Pairs
+pub mod Names
+pub mod NoClasses
 pub mod Expressions
 pub mod Locals
 pub mod Statements

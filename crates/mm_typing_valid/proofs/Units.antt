@@ -5,7 +5,6 @@ use Rattle.std.specs.List.{list_any, count_by}
 use Rattle.std.specs.Str.{bytes_eq}
 use Rattle.mm_classes.specs.declared.class.Ty.{Ty}
 use Rattle.mm_classes.specs.Lists.{Has, first, later}
-use Rattle.mm_classes.specs.Classes.{IsClassList}
 use Rattle.mm_core.specs.declared.part.CoreParam.{CoreParam}
 use Rattle.mm_core.specs.Heads.{same_types, types_of_params}
 use Rattle.mm_core.specs.Tree as k
@@ -20,14 +19,16 @@ use Rattle.mm_unit_typing.specs.Made.{Made, block_of}
 use Rattle.mm_unit_typing.specs.Functions.{Heading, ParamsType, is_function, number_of, known, with_function, defined_with, with_body, seen}
 use Rattle.mm_unit_typing.specs.Units.{body_here, BodyTypes, FunctionTypes, DeclsType, UnitTypes}
 use Rattle.mm_typing_valid.specs.Numbers.{StmtInRange, FunctionInRange, DeclsInRange}
+use Rattle.mm_typing_valid.specs.Seen.{IsPlain}
 use Rattle.mm_typing_valid.specs.Statements.{Begins, AreValidAt}
 use Rattle.mm_typing_valid.specs.Units.{TypedUnitIsValid}
-use Rattle.mm_typing_valid.proofs.Conversions.{both_true, no_void, arithmetic_plain}
+use Rattle.mm_typing_valid.proofs.Conversions.{both_true, no_void, arithmetic_plain, plain_typed}
+use Rattle.mm_typing_valid.proofs.NoClasses.{no_classes}
 use Rattle.mm_typing_valid.proofs.Locals.{itself, further, stmt_extends}
 use Rattle.mm_typing_valid.proofs.Statements.{stmts_valid, typed_stmt_is_valid}
 use Rattle.mm_typing_valid.proofs.Variables.{stmt_types}
 use Rattle.mm_typing_valid.proofs.Heads.{params_arithmetic, params_vars, IsHeading, head_says}
-use Rattle.mm_typing_valid.proofs.Functions.{Extends, extends_itself, extends_then, extends_body, extends_declared, from_body, from_declared, at_number, is_there, result_known, IsFine, arguments_are, seen_heads, declared_fine, declared_apart, body_apart}
+use Rattle.mm_typing_valid.proofs.Functions.{Extends, extends_itself, extends_then, extends_body, extends_declared, from_body, from_declared, at_number, is_there, result_known, IsFine, arguments_are, seen_around, declared_fine, declared_apart, body_apart}
 
 abbrev pub program_of : List k.Function → k.Program
 program_of fs = record { classes = []; functions = fs }
@@ -77,7 +78,7 @@ has_drop (suc n) (u ∷ ts) t m = later (has_drop n ts t m)
 rest_of : (ts us : List Ty) → Begins ts us → ts ++ drop (length ts) us ≡ us
 rest_of ts us b = ap (λ vs. ts ++ drop (length ts) vs) (sym b.1) ∙ ap (λ vs. ts ++ vs) (drop-all ts b.0) ∙ b.1
 
-module _ (fs : List k.Function) (x : Head) (h : Heading) (body : syntax.Stmt) (b : Made (List k.Stmt)) (ok : AreFine fs) (typed : ParamsType 0 [] x.params.list h.params) (types : BodyTypes fs x h body b) (range : StmtInRange body) where
+module _ (fs : List k.Function) (x : Head) (h : Heading) (body : syntax.Stmt) (b : Made (List k.Stmt)) (ok : AreFine fs) (plain : IsPlain h.result) (typed : ParamsType 0 [] x.params.list h.params) (types : BodyTypes fs x h body b) (range : StmtInRange body) where
   abbrev variables : List Ty
   variables = drop (length h.params) b.locals
 
@@ -105,8 +106,8 @@ module _ (fs : List k.Function) (x : Head) (h : Heading) (body : syntax.Stmt) (b
         all = subst (Begins b.locals) (sym locals) (itself b.locals)
 
         valid : AreValidAt a h.result false b.tree
-        valid = typed_stmt_is_valid a (seen fs) (seen_heads a fs refl (λ f. refl) e ok.fine) (body_here x h) (parameters_from 0 x.params.list) h.params body b
-            (params_vars (seen fs) a [] x.params.list h.params [] typed (further h.params b.locals a.locals begins all)) range all types
+        valid = typed_stmt_is_valid a (seen fs) (seen_around a fs refl (λ f. refl) e ok.fine) (body_here x h) (parameters_from 0 x.params.list) h.params body b
+            (params_vars (seen fs) a [] x.params.list h.params [] typed (further h.params b.locals a.locals begins all)) (plain_typed 0 h.result plain) range all types
 
   with_defined : list_any (is_function x.name.text h.params) fs ≡ true → ((g : k.Function) → known fs x.name.text h.params ≡ Some g → is_function x.name.text h.params g ≡ true → g.result ≡ h.result) → AreFine after
   with_defined there results = record {
@@ -151,7 +152,7 @@ function_fine : (fs : List k.Function) (f : syntax.Function) (v : List k.Functio
 function_fine fs (syntax.declaration p x) v r ok h = subst AreFine h.2 (with_declared fs false x h.0 ok (head_says fs false x h.0 h.1))
 function_fine fs (syntax.definition p x body) v r ok h =
     let head = head_says fs true x h.0 h.1 in
-    subst AreFine h.2.2 (with_defined (with_function fs x.name h.0) x h.0 body h.2.0 (with_declared fs true x h.0 ok head) head.params h.2.1 r
+    subst AreFine h.2.2 (with_defined (with_function fs x.name h.0) x h.0 body h.2.0 (with_declared fs true x h.0 ok head) head.plain head.params h.2.1 r
     (is_there fs x.name h.0) (λ g is that. result_known fs x.name h.0 true g head.new is that))
 function_fine fs (syntax.member_definition p class x body) v r ok h = absurd h
 function_fine fs (syntax.constructor_definition p class word params body) v r ok h = absurd h
@@ -165,19 +166,6 @@ decls_fine fs (syntax.function_decl p x ∷ ds) v r ok h = decls_fine h.0 ds v r
 decls_fine fs (syntax.class_decl p x ∷ ds) v r ok h = absurd h.1
 
 -- ---- units
-
-no_classes : IsClassList []
-no_classes = record {
-  rank = λ c. 0;
-  low = λ c. omega arith;
-  falls = λ c b h. elim h [ ];
-  known = λ c b h. elim h [ ];
-  once = λ c. tt;
-  bare = λ c e. (refl, refl);
-  members = λ c. record { few = omega arith; apart = λ i j d l h. absurd (let z : ⊥ = omega arith in z) };
-  typed = λ c m t h k. elim h [ ];
-  named = tt;
-}
 
 is_variable : (t : Ty) → is_arithmetic t ≡ true → IsVariable [] t
 is_variable t e = (subst (IsDeclared []) (sym (arithmetic_plain t e)) tt, no_void t e)

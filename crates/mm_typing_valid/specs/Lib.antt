@@ -1,4 +1,5 @@
 pub mod Numbers
+pub mod Names
 pub mod Seen
 pub mod Expressions
 pub mod Statements

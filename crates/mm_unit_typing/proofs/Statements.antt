@@ -47,7 +47,7 @@ module _ (env : Environment) where
   begins : (here : Here) (t : Ty) (vs : List Var) (n : ℕ) (mark : Option DeclaratorMark) (name : Name) (x : Initializer) → Reads (judge_begin env here t vs n mark name x) (Begins env here t vs n mark name x) (BeginsNot env here t vs mark name x)
   unfolding judge_begin
   begins here t vs n mark name no_initial = part (stands here.outer vs t mark name) λ u. last (yours name) _
-  begins here t vs n mark name (initial e) = part (reads (inside env vs) e) λ x. part (stands here.outer vs t mark name) λ u. part (becomes t e x) λ c. last (yours name) _
+  begins here t vs n mark name (initial e) = part (reads (inside env vs) e) λ x. part (stands here.outer vs t mark name) λ u. part (becomes (inside env vs) t e x) λ c. last (yours name) _
   begins here t vs n mark name (arguments es) = fails _
 
   all_begin : (here : Here) (t : Ty) (vs : List Var) (locals : List Ty) (xs : List Declarator) → Reads (judge_begins env here t vs locals xs) (AllBegin env here t vs locals xs) (SomeBeginsNot env here t vs locals xs)
@@ -82,7 +82,7 @@ module _ (env : Environment) where
 
   returned : (here : Here) (vs : List Var) (locals : List Ty) (p : Place) (e : Expr) → Reads (judge_stmt env here vs locals (return p e)) (StmtTypes env here vs locals (return p e)) (StmtFaults env here vs locals (return p e))
   unfolding judge_stmt judge_return
-  returned here vs locals p e = as_said (last (part (reads (inside env vs) e) λ x. part (met _ _) λ u. last (becomes here.result e x) _) _)
+  returned here vs locals p e = as_said (last (part (reads (inside env vs) e) λ x. part (met _ _) λ u. last (becomes (inside env vs) here.result e x) _) _)
       (λ v t. let r = t.1 in (r.0, r.1, (r.2.0, r.2.1, (r.2.2.0, r.2.2.1, ap (λ s. made (s ∷ []) locals) r.2.2.2 ∙ t.2))))
       (λ v t. (k.return t.2.2.0, (t.0, t.1, (t.2.0, t.2.1, (t.2.2.0, t.2.2.1, refl))), t.2.2.2))
       (λ f t. t)

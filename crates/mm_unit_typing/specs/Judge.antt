@@ -52,7 +52,7 @@ module _ (env : Environment) where
   judge_begin here t vs n mark name (initial e) = do
     x ← judge (inside env vs) e
     u ← may_stand here.outer vs t mark name
-    c ← as_type t e x
+    c ← as_type (inside env vs) t e x
     w ← is_yours name
     Ok (k.run (k.set_local n c))
   judge_begin here t vs n mark name (arguments es) = Err (unbuilt (mark_or mark name.place))
@@ -97,7 +97,7 @@ module _ (env : Environment) where
   judge_return here vs p e = do
     x ← judge (inside env vs) e
     u ← demand (not (is_void here.result)) (at S14 p (codes "return"))
-    c ← as_type here.result e x
+    c ← as_type (inside env vs) here.result e x
     Ok (k.return c)
 
   unfoldable mutual

@@ -53,7 +53,7 @@ module _ (env : Environment) where
   Begins here t vs n mark name (initial e) =
       Then (Types (inside env vs) e) λ x.
       Then (MayStand here.outer vs t mark name) λ u.
-      Then (Becomes t x) λ c.
+      Then (Becomes (inside env vs) t x) λ c.
       Then (IsYours name) λ w s.
       k.run (k.set_local n c) ≡ s
   Begins here t vs n mark name (arguments es) = λ s. ⊥
@@ -65,7 +65,7 @@ module _ (env : Environment) where
   BeginsNot here t vs mark name (initial e) =
       First (Types (inside env vs) e) (Faults (inside env vs) e) λ x.
       First (MayStand here.outer vs t mark name) (MayNotStand here.outer vs t mark name) λ u.
-      First (Becomes t x) (BecomesNot t e x) λ c.
+      First (Becomes (inside env vs) t x) (BecomesNot (inside env vs) t e x) λ c.
       IsNotYours name
   BeginsNot here t vs mark name (arguments es) = λ f. unbuilt (mark_or mark name.place) ≡ f
 
@@ -174,7 +174,7 @@ module _ (env : Environment) where
     StmtTypes here vs locals (return p e) =
         Then (Types (inside env vs) e) λ x.
         Then (Met (not (is_void here.result))) λ u.
-        Then (Becomes here.result x) λ c v.
+        Then (Becomes (inside env vs) here.result x) λ c v.
         made (k.return c ∷ []) locals ≡ v
 
     -- what a statement declares is seen by those behind it
@@ -214,7 +214,7 @@ module _ (env : Environment) where
     StmtFaults here vs locals (return p e) =
         First (Types (inside env vs) e) (Faults (inside env vs) e) λ x.
         First (Met (not (is_void here.result))) (Unmet (not (is_void here.result)) (at S14 p (codes "return"))) λ u.
-        BecomesNot here.result e x
+        BecomesNot (inside env vs) here.result e x
 
     pub StmtsFault : Here → List Var → List Ty → Stmts → Fault → Type 0
     StmtsFault here vs locals no_stmts = λ f. ⊥

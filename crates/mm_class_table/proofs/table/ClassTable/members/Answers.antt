@@ -1,5 +1,4 @@
-use Rattle.std.proofs.Common.{◌≡◌, List, get_or, length, ap, subst, sym, ◌∙◌}
-use Rattle.mm_classes.specs.declared.class.Member.{Member}
+use Rattle.std.proofs.Common.{◌≡◌, get_or, length, ap, subst, sym, ◌∙◌}
 use Rattle.mm_classes.specs.Classes.{Class, IsClassList, IsMemberList, AreTyped, members_of}
 use Rattle.mm_class_table.proofs.Entries.{class_is}
 use Rattle.mm_class_table.proofs.table.ClassTable.members.Goals as goal

@@ -1,6 +1,6 @@
 use Rattle.std.proofs.Common.{sym, subst, ap, map, arith, List, length, ◌∙◌}
 use Rattle.std.specs.Prelude.{string_bytes}
-use Rattle.mm_classes.specs.Classes.{Class, IsClassList, names_in}
+use Rattle.mm_classes.specs.Classes.{IsClassList, names_in}
 use Rattle.mm_class_table.specs.declared.entry.Entry.{Entry}
 use Rattle.mm_class_table.specs.Kept.{classes_in}
 use Rattle.mm_class_table.proofs.Entries.{none_valid}
