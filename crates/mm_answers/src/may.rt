@@ -15,8 +15,8 @@ use mm_lookup::may::may_use as may_use_in;
 use mm_overload::ranks::is_base_of;
 use mm_paths::graph::Graph;
 
-// The class of a subobject, where the class has one of this number.
-fn class_in(graph: &Graph, c: ClassId, n: NodeId) -> Option<ClassId>
+/// The class of a subobject, where the class has one of this number. It takes no memory.
+pub fn class_in(graph: &Graph, c: ClassId, n: NodeId) -> Option<ClassId>
     ensures { result ≡ option_map end_of (slice_get (subobjects_of graph.now c) n) }
 {
     // Asked here, so that the graph is known to be a class list.

@@ -1,5 +1,9 @@
+pub mod Choices
 pub mod Choosing
-pub mod Ends
+pub mod Converting
+pub mod Fields
 pub mod Given
 pub mod Loops
+pub mod Parts
+pub mod Searching
 pub mod Sizes

@@ -20,7 +20,7 @@ abbrev mutual
   size (t.new p class) = 1
   size (t.make p class es) = 1
   size (t.call p e es) = size e + sizes es + 4
-  size (t.member p a op at class word) = 1
+  size (t.member p a op at class word) = size a + 2
 
   pub sizes : t.Exprs → ℕ
   sizes t.no_exprs = 0

@@ -1,2 +1,4 @@
-pub mod Callee
 pub mod Demands
+pub mod Meanings
+pub mod Objects
+pub mod Resolved

@@ -1,22 +1,27 @@
 //! The parts of an expression in order, then the node itself.
 
 ghost use Rattle.std.specs.Prelude.{◌≡◌};
+ghost use Rattle.std.specs.Option.{option_copied};
 ghost use Rattle.mm_core.specs.View.{expr_view as core_view};
 ghost use Rattle.mm_syntax.specs.View.{expr_view, exprs_view};
-ghost use Rattle.mm_syntax.specs.Tree.{unary, step, binary, choose, assign, call};
+ghost use Rattle.mm_syntax.specs.Tree.{unary, step, binary, choose, assign, make, call, member};
 ghost use Rattle.mm_checks.specs.Checks.{Gives, Answers};
-ghost use Rattle.mm_check_expr.specs.Demands.{no_function};
 ghost use Rattle.mm_typing.specs.Typed.{typed_view, typeds_view};
 ghost use Rattle.mm_typing.specs.Calls.{callee};
-ghost use Rattle.mm_typing.specs.Judge.{judge, judge_all, judge_as};
+ghost use Rattle.mm_typing.specs.Judge.{judge, judge_all, judge_as, judge_before};
 ghost use Rattle.mm_typing.specs.Typing.{Types, Faults, TypesAs, FaultsAs};
-ghost use Rattle.mm_check_expr.specs.Callee.{callee_view, name_in};
+ghost use Rattle.mm_check_expr.specs.Meanings.{maybe_callee_view, name_in, own_method};
+ghost use Rattle.mm_check_expr.specs.Resolved.{no_function};
 
-use crate::calls::{Callee, find_callee, make_call, make_name};
+use crate::calls::make_call;
 use crate::convert::{as_type, refuse};
+use crate::names::{
+    Callee, call_member, call_name, call_scoped, make_member, make_name, make_scoped,
+};
 use crate::nodes::{
     make_assign, make_boolean, make_choose, make_number, make_operation, make_step, make_unary,
 };
+use crate::objects::{make_new, make_this};
 use crate::operators::{assignment, operation};
 use mm_base::code::Code;
 use mm_base::place::Place;
@@ -25,10 +30,28 @@ use mm_classes::class::Ty;
 use mm_core::tree::CoreExpr;
 use mm_scopes::env::Env;
 use mm_syntax::expr::{Expr, ExprKind};
-use mm_syntax::name::{AssignOperator, BinaryOperator, StepOperator, UnaryOperator};
+use mm_syntax::name::{
+    AssignOperator, BinaryOperator, MemberOperator, Name, StepOperator, UnaryOperator,
+};
 use mm_typing::typed::TypedExpr;
 use sqlite_items::Items;
 use std::alloc::Global;
+
+// `new` with arguments in parentheses, of which there may be none.
+fn make_made(
+    alloc: Global,
+    env: &Env,
+    place: Place,
+    class: &Name,
+    es: &[Expr],
+) -> Result<TypedExpr, CheckEnd>
+    ensures { Gives typed_view result (judge env.now (make place class.now (exprs_view es.now))) }
+{
+    match es {
+        [] => make_new(alloc, env.graph(), class),
+        [_, ..] => refuse(alloc, Code::N0, place, ""),
+    }
+}
 
 #[cycle(check)]
 fn check(alloc: Global, env: &Env, e: &Expr) -> Result<TypedExpr, CheckEnd>
@@ -45,12 +68,14 @@ fn check(alloc: Global, env: &Env, e: &Expr) -> Result<TypedExpr, CheckEnd>
         ExprKind::Choose(c, at, a, b) => check_choose(alloc, env, c.get(), *at, a.get(), b.get()),
         ExprKind::Assign(a, op, at, b) => check_assign(alloc, env, a.get(), *op, *at, b.get()),
         ExprKind::Call(f, es) => check_call(alloc, env, f.get(), es.as_slice()),
-        ExprKind::This => refuse(alloc, Code::N0, e.place, ""),
-        ExprKind::Scoped(_, _) => refuse(alloc, Code::N0, e.place, ""),
+        ExprKind::This => make_this(alloc, e.place, env.from().class),
+        ExprKind::Scoped(class, name) => make_scoped(alloc, env, e.place, class, name),
         ExprKind::Cast(_, _) => refuse(alloc, Code::N0, e.place, ""),
-        ExprKind::New(_) => refuse(alloc, Code::N0, e.place, ""),
-        ExprKind::Make(_, _) => refuse(alloc, Code::N0, e.place, ""),
-        ExprKind::Member(_, _, _, _, _) => refuse(alloc, Code::N0, e.place, ""),
+        ExprKind::New(class) => make_new(alloc, env.graph(), class),
+        ExprKind::Make(class, es) => make_made(alloc, env, e.place, class, es.as_slice()),
+        ExprKind::Member(a, op, at, class, name) => {
+            check_member(alloc, env, a.get(), *op, *at, class.as_ref(), name)
+        }
     }
 }
 
@@ -65,7 +90,7 @@ fn check_unary(
     ensures { Gives typed_view result (judge env.now (unary place op (expr_view a.now))) }
 {
     let x = check(alloc, env, a)?;
-    make_unary(alloc, op, place, a, x)
+    make_unary(alloc, env.graph(), op, place, a, x)
 }
 
 #[cycle(check)]
@@ -91,11 +116,22 @@ fn check_binary(
     at: Place,
     b: &Expr,
 ) -> Result<TypedExpr, CheckEnd>
-    ensures { Gives typed_view result (judge env.now (binary at (expr_view a.now) op at (expr_view b.now))) }
+    ensures { Gives typed_view result (judge env.now (binary at (expr_view a.now) op at
+        (expr_view b.now))) }
 {
     let left = check(alloc, env, a)?;
     let right = check(alloc, env, b)?;
-    make_operation(alloc, operation(op), at, op.spelling(), a, b, left, right)
+    make_operation(
+        alloc,
+        env,
+        operation(op),
+        at,
+        op.spelling(),
+        a,
+        b,
+        left,
+        right,
+    )
 }
 
 #[cycle(check)]
@@ -107,12 +143,13 @@ fn check_choose(
     a: &Expr,
     b: &Expr,
 ) -> Result<TypedExpr, CheckEnd>
-    ensures { Gives typed_view result (judge env.now (choose at (expr_view c.now) at (expr_view a.now) (expr_view b.now))) }
+    ensures { Gives typed_view result (judge env.now (choose at (expr_view c.now) at
+        (expr_view a.now) (expr_view b.now))) }
 {
     let d = check(alloc, env, c)?;
     let x = check(alloc, env, a)?;
     let y = check(alloc, env, b)?;
-    make_choose(alloc, at, c, d, x, y)
+    make_choose(alloc, env, at, c, a, b, d, x, y)
 }
 
 #[cycle(check)]
@@ -124,40 +161,85 @@ fn check_assign(
     at: Place,
     b: &Expr,
 ) -> Result<TypedExpr, CheckEnd>
-    ensures { Gives typed_view result (judge env.now (assign at (expr_view a.now) op at (expr_view b.now))) }
+    ensures { Gives typed_view result (judge env.now (assign at (expr_view a.now) op at
+        (expr_view b.now))) }
 {
     let x = check(alloc, env, a)?;
     let y = check(alloc, env, b)?;
-    make_assign(alloc, assignment(op), at, op.spelling(), b, x, y)
+    make_assign(alloc, env, assignment(op), at, op.spelling(), b, x, y)
+}
+
+#[cycle(check)]
+fn check_member(
+    alloc: Global,
+    env: &Env,
+    a: &Expr,
+    op: MemberOperator,
+    at: Place,
+    class: Option<&Name>,
+    name: &Name,
+) -> Result<TypedExpr, CheckEnd>
+    ensures { Gives typed_view result (judge env.now (member at (expr_view a.now) op at
+        (option_copied class.entry) name.now)) }
+{
+    let x = check(alloc, env, a)?;
+    make_member(alloc, env, a, op, at, class, name, x)
 }
 
 #[cycle(check)]
 fn check_call(alloc: Global, env: &Env, f: &Expr, es: &[Expr]) -> Result<TypedExpr, CheckEnd>
-    ensures { Gives typed_view result (judge env.now (call f.now.place (expr_view f.now) (exprs_view es.now))) }
+    ensures { Gives typed_view result (judge env.now (call f.now.place (expr_view f.now)
+        (exprs_view es.now))) }
 {
     let callee = check_callee(alloc, env, f)?;
     let args = check_all(alloc, env, es)?;
-    make_call(alloc, env, f, callee, args)
+    make_call(alloc, env, f, callee, es, args)
 }
 
 // What stands before the parentheses of a call.
 #[cycle(check)]
-fn check_callee(alloc: Global, env: &Env, e: &Expr) -> Result<Callee, CheckEnd>
-    ensures { Gives (callee_view env.now (name_in (expr_view e.now))) result (callee env.now (expr_view e.now) (judge env.now (expr_view e.now))) }
+fn check_callee(alloc: Global, env: &Env, e: &Expr) -> Result<Option<Callee>, CheckEnd>
+    ensures { Gives (maybe_callee_view env.now (name_in (expr_view e.now))) result (callee env.now
+        (expr_view e.now) (judge_before env.now (expr_view e.now)) (judge env.now
+        (expr_view e.now))) }
 {
     match &e.kind {
-        ExprKind::Name(text) => find_callee(alloc, env, e.place, text.as_str()),
+        ExprKind::Name(text) => call_name(alloc, env, e.place, text.as_str()),
+        ExprKind::Scoped(class, name) => call_scoped(alloc, env, e.place, class, name),
+        ExprKind::Member(a, op, at, class, name) => {
+            check_method(alloc, env, a.get(), *op, *at, class.as_ref(), name)
+        }
         _ => check_no_function(alloc, env, e),
     }
 }
 
+// The same of a member.
+#[cycle(check)]
+fn check_method(
+    alloc: Global,
+    env: &Env,
+    a: &Expr,
+    op: MemberOperator,
+    at: Place,
+    class: Option<&Name>,
+    name: &Name,
+) -> Result<Option<Callee>, CheckEnd>
+    ensures { Gives (maybe_callee_view env.now name.now) result (own_method env.now
+        (expr_view a.now) op at (option_copied class.entry) name.now (judge env.now
+        (expr_view a.now))) }
+{
+    let x = check(alloc, env, a)?;
+    call_member(alloc, env, a, op, at, class, name, x)
+}
+
 // The same, where it is no name.
 #[cycle(check)]
-fn check_no_function(alloc: Global, env: &Env, e: &Expr) -> Result<Callee, CheckEnd>
-    ensures { Gives (callee_view env.now (name_in (expr_view e.now))) result (no_function (judge env.now (expr_view e.now))) }
+fn check_no_function(alloc: Global, env: &Env, e: &Expr) -> Result<Option<Callee>, CheckEnd>
+    ensures { Gives (maybe_callee_view env.now (name_in (expr_view e.now))) result (no_function
+        (judge env.now (expr_view e.now))) }
 {
     let _value = check(alloc, env, e)?;
-    Ok(Callee::NoFunction)
+    Ok(None)
 }
 
 #[cycle(check)]
@@ -174,7 +256,8 @@ fn check_all(alloc: Global, env: &Env, es: &[Expr]) -> Result<Items<TypedExpr>, 
 /// The checked expression with its type, or the first fault.
 pub fn check_expr(alloc: Global, env: &Env, e: &Expr) -> Result<TypedExpr, CheckEnd>
     ensures is { Gives typed_view result (judge env.now (expr_view e.now)) }
-    ensures answers { Answers typed_view (Types env.now (expr_view e.now)) (Faults env.now (expr_view e.now)) result }
+    ensures answers { Answers typed_view (Types env.now (expr_view e.now)) (Faults env.now
+        (expr_view e.now)) result }
 {
     check(alloc, env, e)
 }
@@ -183,13 +266,14 @@ fn check_to(alloc: Global, env: &Env, to: Ty, e: &Expr) -> Result<CoreExpr, Chec
     ensures { Gives core_view result (judge_as env.now to (expr_view e.now)) }
 {
     let x = check(alloc, env, e)?;
-    as_type(alloc, to, e, x)
+    as_type(alloc, env, to, e, x)
 }
 
 /// The checked expression, converted to a type, or the first fault. That of a condition is `bool`.
 pub fn check_as(alloc: Global, env: &Env, to: Ty, e: &Expr) -> Result<CoreExpr, CheckEnd>
     ensures is { Gives core_view result (judge_as env.now to (expr_view e.now)) }
-    ensures answers { Answers core_view (TypesAs env.now to (expr_view e.now)) (FaultsAs env.now to (expr_view e.now)) result }
+    ensures answers { Answers core_view (TypesAs env.now to (expr_view e.now)) (FaultsAs env.now to
+        (expr_view e.now)) result }
 {
     check_to(alloc, env, to, e)
 }

@@ -1,7 +1,7 @@
 //! What the operators of a text do.
 
 ghost use Rattle.std.specs.Prelude.{◌≡◌};
-ghost use Rattle.mm_core.specs.Valid.{compares};
+ghost use Rattle.mm_core.specs.Valid.{compares, tests_equality};
 ghost use Rattle.mm_typing.specs.Operators.{operation_of, assignment_of, change_of};
 
 use mm_core::part::{Change, Operator};
@@ -58,5 +58,17 @@ pub(crate) fn is_comparison(op: Operator) -> bool
         Operator::Divide | Operator::Remainder => false,
         Operator::Less | Operator::Greater | Operator::LessEqual => true,
         Operator::GreaterEqual | Operator::Equal | Operator::NotEqual => true,
+    }
+}
+
+pub(crate) fn is_equality(op: Operator) -> bool
+    ensures { result ≡ tests_equality op }
+{
+    match op {
+        Operator::Add | Operator::Subtract | Operator::Multiply => false,
+        Operator::Divide | Operator::Remainder => false,
+        Operator::Less | Operator::Greater | Operator::LessEqual => false,
+        Operator::GreaterEqual => false,
+        Operator::Equal | Operator::NotEqual => true,
     }
 }

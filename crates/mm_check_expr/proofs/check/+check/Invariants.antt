@@ -37,3 +37,9 @@ decreases-check_all l = sizes (exprs_view l.es.now)
 
 abbrev pub invariant-check_all-loop-e : goal.invariant-check_all-loop-e
 invariant-check_all-loop-e l = SoFar l.env l.es l.e-index (typeds_view l.args)
+
+abbrev pub decreases-check_member : goal.decreases-check_member
+decreases-check_member l = size (expr_view l.a.now) + 1
+
+abbrev pub decreases-check_method : goal.decreases-check_method
+decreases-check_method l = size (expr_view l.a.now) + 1
