@@ -51,7 +51,7 @@ module _ (here : Here) (old : Environment) (before : List Ty) (ss : List Stmt) (
   next : drop i ss ≡ s ∷ drop (i + 1) ss
   next = drop_more ss i s low ∙ ap (λ x. x ∷ drop (i + 1) ss) (sym is)
 
-  pub stmts_next : (env' : Environment) (locals' : List Ty) (made' more : List k.Stmt) → env' ≡ inside env (env.vars ++ declared (length locals) (stmt_view s)) → judge_stmt (outside env) here env.vars locals (stmt_view s) ≡ Ok (made made' locals') → more ≡ steps ++ nodes_of (stmt_view s) made' → StmtsSoFar here old before ss (i + 1) env' locals' more
+  pub stmts_next : (env' : Environment) (locals' : List Ty) (made' more : List k.Stmt) → env' ≡ inside env (env.vars ++ declared env.classes (length locals) (stmt_view s)) → judge_stmt (outside env) here env.vars locals (stmt_view s) ≡ Ok (made made' locals') → more ≡ steps ++ nodes_of (stmt_view s) made' → StmtsSoFar here old before ss (i + 1) env' locals' more
   unfolding judge_stmt judge_stmts
   stmts_next env' locals' made' more e found m = rw (e, m) (record {
     whole = sym (after-more steps (nodes_of (stmt_view s) made') _) ∙ rw (next, found) at h.whole;

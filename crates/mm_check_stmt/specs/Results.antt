@@ -9,7 +9,12 @@ use Rattle.mm_checks.specs.Checks.{Checked, ◌>>=◌, Fails}
 use Rattle.mm_scopes.specs.declared.head.Var.{Var}
 use Rattle.mm_scopes.specs.Environment.{Environment}
 use Rattle.mm_unit_typing.specs.Scopes.{inside}
-use Rattle.mm_unit_typing.specs.Made.{Made, made}
+use Rattle.mm_unit_typing.specs.Types as types
+use Rattle.mm_unit_typing.specs.Made.{Made, made, zero_of}
+use Rattle.mm_check_stmt.specs.declared.variables.Begin.{Begin}
+use Rattle.mm_check_stmt.specs.declared.variables.Begin.TheVariants as begin
+use Rattle.mm_check_stmt.specs.declared.types.Specified.{Specified}
+use Rattle.mm_check_stmt.specs.declared.types.Specified.TheVariants as words
 
 -- what is seen but for the variables
 abbrev pub outside : Environment → Environment
@@ -36,3 +41,13 @@ added front check = check >>= λ s. Ok (front ++ s ∷ [])
 -- the same with the locals that it leaves
 abbrev pub put : List k.Stmt → Checked (Made k.Stmt) → Checked (Made (List k.Stmt))
 put front check = check >>= λ x. Ok (made (front ++ x.tree ∷ []) x.locals)
+
+-- what words of a type in memory name
+abbrev pub specified_view : Specified → types.Specified
+specified_view (words.Scalar t) = types.scalar t
+specified_view (words.Class c) = types.of_class c
+
+-- the statement by which a local begins
+abbrev pub begin_view : Begin → k.Stmt
+begin_view (begin.Object n) = k.make n
+begin_view (begin.Zero n t) = k.run (k.set_local n (zero_of t))

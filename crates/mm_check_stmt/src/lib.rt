@@ -4,4 +4,5 @@
 pub mod declare;
 pub mod parts;
 pub mod stmt;
+pub mod types;
 pub mod variables;

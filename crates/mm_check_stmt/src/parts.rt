@@ -11,7 +11,7 @@ ghost use Rattle.mm_unit_typing.specs.Made as made;
 ghost use Rattle.mm_unit_typing.specs.Judge as judges;
 ghost use Rattle.mm_check_stmt.specs.Results.{Makes, outside, steps_view};
 
-use crate::declare::is_void;
+use crate::types::is_void;
 use crate::variables::check_variables;
 use mm_base::code::Code;
 use mm_base::place::Place;
@@ -152,7 +152,7 @@ pub fn check_start(
     start: &ForStart,
 ) -> Result<Items<CoreStmt>, CheckEnd>
     ensures is { Makes steps_view locals.new result (judges.judge_start (outside env.old) here.now env.old.vars locals.old (t.start_view start.now)) }
-    ensures vars { OnOk result (env.new ≡ inside env.old (scopes.behind_start env.old.vars locals.old (t.start_view start.now))) }
+    ensures vars { OnOk result (env.new ≡ inside env.old (scopes.behind_start env.old.classes env.old.vars locals.old (t.start_view start.now))) }
 {
     match start {
         ForStart::Nothing => one(alloc, CoreStmt::Block(Items::new(alloc))),

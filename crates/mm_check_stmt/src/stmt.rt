@@ -37,7 +37,7 @@ pub fn check_stmt(
     s: &Stmt,
 ) -> Result<Items<CoreStmt>, CheckEnd>
     ensures is { Makes steps_view locals.new result (judge_stmt (outside env.old) here.now env.old.vars locals.old (t.stmt_view s.now)) }
-    ensures vars { OnOk result (env.new ≡ inside env.old (scopes.behind env.old.vars locals.old (t.stmt_view s.now))) }
+    ensures vars { OnOk result (env.new ≡ inside env.old (scopes.behind env.old.classes env.old.vars locals.old (t.stmt_view s.now))) }
 {
     match &s.kind {
         StmtKind::Block(ss) => check_block(alloc, env, locals, here, ss.as_slice()),

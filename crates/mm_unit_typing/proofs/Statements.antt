@@ -2,6 +2,7 @@
 use Rattle.std.proofs.Common.{◌≡◌, ℕ, List, [], ◌∷◌, ◌++◌, length, refl, ap, ◌∙◌, inl, inr}
 use Rattle.std.specs.Prelude.{Option, Some, None, Ok}
 use Rattle.mm_base.specs.declared.place.Place.{Place}
+use Rattle.mm_classes.specs.Classes.{Class}
 use Rattle.mm_classes.specs.declared.class.Ty.{Ty}
 use Rattle.mm_classes.specs.declared.class.Ty.TheVariants as ty
 use Rattle.mm_core.specs.Tree as k
@@ -11,29 +12,25 @@ use Rattle.mm_syntax.specs.declared.expr.TypeName.{TypeName}
 use Rattle.mm_syntax.specs.Tree.{Expr, Declarator, Variables, Initializer, no_initial, initial, arguments, Start, no_start, start_expr, start_variables, Stmt, block, empty, run, declare, if_then, if_else, while_do, do_while, for_do, break, continue, return_nothing, return, Stmts, no_stmts, stmt_and}
 use Rattle.mm_checks.specs.Checks.{Fault, Checked, ◌>>=◌, Then}
 use Rattle.mm_checks.specs.Reads.{Reads}
-use Rattle.mm_checks.proofs.Combinators.{part, met, gives, fails, as_said}
+use Rattle.mm_checks.proofs.Combinators.{part, met, is_there, gives, fails, as_said}
 use Rattle.mm_scopes.specs.declared.head.Var.{Var}
 use Rattle.mm_scopes.specs.Environment.{Environment}
 use Rattle.mm_typing.proofs.Operators.{becomes}
 use Rattle.mm_typing.proofs.Reading.{reads, as_reads}
 use Rattle.mm_unit_typing.specs.declared.here.Here.{Here}
-use Rattle.mm_unit_typing.specs.Declarators.{scalar_of, unbuilt, Names, NamesNone}
-use Rattle.mm_unit_typing.specs.Scopes.{inside, within, turn_within, variable, behind, behind_start}
+use Rattle.mm_unit_typing.specs.Types.{Specified, Names, NamesNone, variable_type, IsYours, IsNotYours}
+use Rattle.mm_unit_typing.specs.Scopes.{inside, within, turn_within, declared_at, behind, behind_start}
 use Rattle.mm_unit_typing.specs.Made.{Made, made}
-use Rattle.mm_unit_typing.specs.Statements.{MayStand, MayNotStand, IsYours, IsNotYours, Begins, BeginsNot, AllBegin, SomeBeginsNot, VariablesType, VariablesFault, StartTypes, StartFaults, TestTypes, TestFaults, StepTypes, StepFaults, LoopTypes, LoopFaults, StmtTypes, StmtsType, StmtFaults, StmtsFault}
-use Rattle.mm_unit_typing.specs.Judge.{built, judge_type, may_stand, is_yours, judge_begin, judge_begins, judge_variables, judge_start, judge_test, judge_step, judge_loop, judge_return, judge_stmt, judge_stmts}
+use Rattle.mm_unit_typing.specs.Statements.{MayStand, MayNotStand, Begins, BeginsNot, AllBegin, SomeBeginsNot, VariablesType, VariablesFault, StartTypes, StartFaults, TestTypes, TestFaults, StepTypes, StepFaults, LoopTypes, LoopFaults, StmtTypes, StmtsType, StmtFaults, StmtsFault}
+use Rattle.mm_unit_typing.specs.Judge.{judge_type, may_stand, is_yours, judge_begin, judge_begins, judge_variables, judge_start, judge_test, judge_step, judge_loop, judge_return, judge_stmt, judge_stmts}
 
 -- ---- types and names
 
-built_reads : (p : Place) (o : Option Ty) → Reads (built p o) (λ t. o ≡ Some t) (λ f. (o ≡ None) × (unbuilt p ≡ f))
-built_reads p None = as_said (fails (unbuilt p)) (λ v t. absurd t) (λ v t. cc t) (λ f e. (refl, e)) (λ f e. e.1)
-built_reads p (Some t) = as_said (gives t) (λ v e. rw e refl) (λ v e. cc e) (λ f e. absurd e) (λ f e. cc (e.0))
+pub type_reads : (g : List Class) (x : TypeName) → Reads (judge_type g x) (Names g x) (NamesNone g x)
+type_reads g x = is_there _ _
 
-pub type_reads : (x : TypeName) → Reads (judge_type x) (Names x) (NamesNone x)
-type_reads x = built_reads x.place (scalar_of x.kind)
-
-pub stands : (outer : ℕ) (vs : List Var) (t : Ty) (mark : Option DeclaratorMark) (name : Name) → Reads (may_stand outer vs t mark name) (MayStand outer vs t mark name) (MayNotStand outer vs t mark name)
-stands outer vs t mark name = part (met _ _) λ u. met _ _
+stands : (g : List Class) (outer : ℕ) (vs : List Var) (x : TypeName) (s : Specified) (mark : Option DeclaratorMark) (name : Name) → Reads (may_stand g outer vs x s mark name) (MayStand g outer vs x s mark name) (MayNotStand g outer vs x s mark name)
+stands g outer vs x s mark name = part (met _ _) λ u. met _ _
 
 pub yours : (name : Name) → Reads (is_yours name) (IsYours name) (IsNotYours name)
 yours name = met _ _
@@ -44,20 +41,20 @@ module _ {A B : Type 0} where
   last h make = as_said (part h (λ x. gives (make x))) (λ v t. t) (λ v t. t) (λ f t. elim t [ inl g ↦ g | inr t ↦ absurd t.2 ]) (λ f g. inl g)
 
 module _ (env : Environment) where
-  begins : (here : Here) (t : Ty) (vs : List Var) (n : ℕ) (mark : Option DeclaratorMark) (name : Name) (x : Initializer) → Reads (judge_begin env here t vs n mark name x) (Begins env here t vs n mark name x) (BeginsNot env here t vs mark name x)
+  begins : (here : Here) (x : TypeName) (s : Specified) (vs : List Var) (n : ℕ) (mark : Option DeclaratorMark) (name : Name) (i : Initializer) → Reads (judge_begin env here x s vs n mark name i) (Begins env here x s vs n mark name i) (BeginsNot env here x s vs n mark name i)
   unfolding judge_begin
-  begins here t vs n mark name no_initial = part (stands here.outer vs t mark name) λ u. last (yours name) _
-  begins here t vs n mark name (initial e) = part (reads (inside env vs) e) λ x. part (stands here.outer vs t mark name) λ u. part (becomes (inside env vs) t e x) λ c. last (yours name) _
-  begins here t vs n mark name (arguments es) = fails _
+  begins here x s vs n mark name no_initial = part (stands env.classes here.outer vs x s mark name) λ u. part (is_there _ _) λ b. last (yours name) _
+  begins here x s vs n mark name (initial e) = part (reads (inside env vs) e) λ y. part (stands env.classes here.outer vs x s mark name) λ u. part (is_there _ _) λ t. part (becomes (inside env vs) t e y) λ c. last (yours name) _
+  begins here x s vs n mark name (arguments es) = fails _
 
-  all_begin : (here : Here) (t : Ty) (vs : List Var) (locals : List Ty) (xs : List Declarator) → Reads (judge_begins env here t vs locals xs) (AllBegin env here t vs locals xs) (SomeBeginsNot env here t vs locals xs)
+  all_begin : (here : Here) (x : TypeName) (s : Specified) (vs : List Var) (locals : List Ty) (ds : List Declarator) → Reads (judge_begins env here x s vs locals ds) (AllBegin env here x s vs locals ds) (SomeBeginsNot env here x s vs locals ds)
   unfolding judge_begins
-  all_begin here t vs locals [] = gives _
-  all_begin here t vs locals (x ∷ xs) = part (begins here t vs (length locals) x.mark x.name x.initializer) λ s. last (all_begin here t (vs ++ variable x.name.text t (length locals) ∷ []) (locals ++ t ∷ []) xs) _
+  all_begin here x s vs locals [] = gives _
+  all_begin here x s vs locals (d ∷ ds) = part (begins here x s vs (length locals) d.mark d.name d.initializer) λ b. last (all_begin here x s (vs ++ declared_at s d (length locals) ∷ []) (locals ++ variable_type d.mark s ∷ []) ds) _
 
   variables : (here : Here) (vs : List Var) (locals : List Ty) (x : Variables) → Reads (judge_variables env here vs locals x) (VariablesType env here vs locals x) (VariablesFault env here vs locals x)
   unfolding judge_variables
-  variables here vs locals x = part (type_reads x.type_name) λ t. all_begin here t vs locals x.names
+  variables here vs locals x = part (type_reads env.classes x.type_name) λ s. all_begin here x.type_name s vs locals x.names
 
   start : (here : Here) (vs : List Var) (locals : List Ty) (x : Start) → Reads (judge_start env here vs locals x) (StartTypes env here vs locals x) (StartFaults env here vs locals x)
   unfolding judge_start
@@ -100,7 +97,7 @@ module _ (env : Environment) where
     stmt_reads here vs locals (if_else p e a b) = part (as_reads (inside env vs) ty.Bool e) λ c. part (stmt_reads (within here vs) vs locals a) λ x. last (stmt_reads (within here vs) vs x.locals b) _
     stmt_reads here vs locals (while_do p e a) = part (as_reads (inside env vs) ty.Bool e) λ c. last (stmt_reads (turn_within here vs) vs locals a) _
     stmt_reads here vs locals (do_while p a e) = part (stmt_reads (turn_within here vs) vs locals a) λ x. last (as_reads (inside env vs) ty.Bool e) _
-    stmt_reads here vs locals (for_do p first c s a) = part (start (within here vs) vs locals first) λ f. last (loop (behind_start vs locals first) c s _ _ _ (stmt_reads (turn_within here (behind_start vs locals first)) (behind_start vs locals first) f.locals a)) _
+    stmt_reads here vs locals (for_do p first c s a) = part (start (within here vs) vs locals first) λ f. last (loop (behind_start env.classes vs locals first) c s _ _ _ (stmt_reads (turn_within here (behind_start env.classes vs locals first)) (behind_start env.classes vs locals first) f.locals a)) _
     stmt_reads here vs locals (break p) = last (met _ _) _
     stmt_reads here vs locals (continue p) = last (met _ _) _
     stmt_reads here vs locals (return_nothing p) = last (met _ _) _
@@ -108,4 +105,4 @@ module _ (env : Environment) where
 
     pub stmts_read : (here : Here) (vs : List Var) (locals : List Ty) (ss : Stmts) → Reads (judge_stmts env here vs locals ss) (StmtsType env here vs locals ss) (StmtsFault env here vs locals ss)
     stmts_read here vs locals no_stmts = gives _
-    stmts_read here vs locals (stmt_and s ss) = part (stmt_reads here vs locals s) λ x. last (stmts_read here (behind vs locals s) x.locals ss) _
+    stmts_read here vs locals (stmt_and s ss) = part (stmt_reads here vs locals s) λ x. last (stmts_read here (behind env.classes vs locals s) x.locals ss) _

@@ -1,8 +1,9 @@
--- The check of a statement as a function: its parts in order, then the statement itself. It says the same as the
--- relations of `Statements`, and serves the code. Own.
+-- The check of a statement as a function: its parts in order, then the statement itself. It says
+-- the same as the relations of `Statements`, and serves the code. Own.
 use Rattle.std.specs.Prelude.{ℕ, true, not, List, [], ◌∷◌, ◌++◌, length, codes, Option, Some, None, Ok, Err}
 use Rattle.mm_base.specs.declared.place.Place.{Place}
 use Rattle.mm_base.specs.declared.code.TheConstants.Code.{S13, S14}
+use Rattle.mm_classes.specs.Classes.{Class}
 use Rattle.mm_classes.specs.declared.class.Ty.{Ty}
 use Rattle.mm_classes.specs.declared.class.Ty.TheVariants as ty
 use Rattle.mm_core.specs.Tree as k
@@ -12,27 +13,24 @@ use Rattle.mm_syntax.specs.declared.name.DeclaratorMark.{DeclaratorMark}
 use Rattle.mm_syntax.specs.declared.expr.TypeName.{TypeName}
 use Rattle.mm_syntax.specs.Forms.{mark_or}
 use Rattle.mm_syntax.specs.Tree.{Expr, Declarator, Variables, Initializer, no_initial, initial, arguments, Start, no_start, start_expr, start_variables, Stmt, block, empty, run, declare, if_then, if_else, while_do, do_while, for_do, break, continue, return_nothing, return, Stmts, no_stmts, stmt_and}
-use Rattle.mm_checks.specs.Checks.{Checked, ◌>>=◌, at, demand}
+use Rattle.mm_checks.specs.Checks.{Checked, ◌>>=◌, at, demand, wanted}
 use Rattle.mm_scopes.specs.declared.head.Var.{Var}
 use Rattle.mm_scopes.specs.Environment.{Environment}
 use Rattle.mm_typing.specs.Conversions.{is_void, as_type}
 use Rattle.mm_typing.specs.Judge.{judge, judge_as}
 use Rattle.mm_unit_typing.specs.declared.here.Here.{Here}
-use Rattle.mm_unit_typing.specs.Declarators.{scalar_of, holds_value, is_reserved, wrong_kind, declared_twice, is_not_yours, unbuilt}
-use Rattle.mm_unit_typing.specs.Scopes.{inside, is_new, within, turn_within, variable, behind, behind_start}
-use Rattle.mm_unit_typing.specs.Made.{Made, made, zero_of, block_of, nodes_of}
+use Rattle.mm_unit_typing.specs.Types.{Specified, specified, no_type, value_type, variable_type, is_whole, is_reserved, wrong_kind, declared_twice, incomplete_type, is_not_yours, unbuilt}
+use Rattle.mm_unit_typing.specs.Scopes.{inside, is_new, within, turn_within, declared_at, behind, behind_start}
+use Rattle.mm_unit_typing.specs.Made.{Made, made, begun, block_of, nodes_of}
 
-abbrev pub built : Place → Option Ty → Checked Ty
-built p None = Err (unbuilt p)
-built p (Some t) = Ok t
+abbrev pub judge_type : List Class → TypeName → Checked Specified
+judge_type g x = wanted (specified g x.kind) (no_type x)
 
-abbrev pub judge_type : TypeName → Checked Ty
-judge_type x = built x.place (scalar_of x.kind)
-
-abbrev pub may_stand : ℕ → List Var → Ty → Option DeclaratorMark → Name → Checked (Unit {0})
-may_stand outer vs t mark name = do
+abbrev pub may_stand : List Class → ℕ → List Var → TypeName → Specified → Option DeclaratorMark
+    → Name → Checked (Unit {0})
+may_stand g outer vs x s mark name = do
   u ← demand (is_new outer vs name.text) (declared_twice name)
-  demand (holds_value mark t) (wrong_kind mark name)
+  demand (is_whole g mark s) (incomplete_type x)
 
 abbrev pub is_yours : Name → Checked (Unit {0})
 is_yours name = demand (not (is_reserved name.text)) (is_not_yours name)
@@ -44,30 +42,36 @@ abbrev pub judge_void : Here → Place → Checked (Unit {0})
 judge_void here p = demand (is_void here.result) (at S14 p (codes "return"))
 
 module _ (env : Environment) where
-  unfoldable pub judge_begin : Here → Ty → List Var → ℕ → Option DeclaratorMark → Name → Initializer → Checked k.Stmt
-  judge_begin here t vs n mark name no_initial = do
-    u ← may_stand here.outer vs t mark name
+  unfoldable pub judge_begin : Here → TypeName → Specified → List Var → ℕ → Option DeclaratorMark
+      → Name → Initializer → Checked k.Stmt
+  judge_begin here x s vs n mark name no_initial = do
+    u ← may_stand env.classes here.outer vs x s mark name
+    b ← wanted (begun n mark s) (wrong_kind mark name)
     w ← is_yours name
-    Ok (k.run (k.set_local n (zero_of t)))
-  judge_begin here t vs n mark name (initial e) = do
-    x ← judge (inside env vs) e
-    u ← may_stand here.outer vs t mark name
-    c ← as_type (inside env vs) t e x
+    Ok b
+  judge_begin here x s vs n mark name (initial e) = do
+    y ← judge (inside env vs) e
+    u ← may_stand env.classes here.outer vs x s mark name
+    t ← wanted (value_type mark s) (wrong_kind mark name)
+    c ← as_type (inside env vs) t e y
     w ← is_yours name
     Ok (k.run (k.set_local n c))
-  judge_begin here t vs n mark name (arguments es) = Err (unbuilt (mark_or mark name.place))
+  judge_begin here x s vs n mark name (arguments es) = Err (unbuilt (mark_or mark name.place))
 
-  unfoldable pub judge_begins : Here → Ty → List Var → List Ty → List Declarator → Checked (Made (List k.Stmt))
-  judge_begins here t vs locals [] = Ok (made [] locals)
-  judge_begins here t vs locals (x ∷ xs) = do
-    s ← judge_begin here t vs (length locals) x.mark x.name x.initializer
-    rest ← judge_begins here t (vs ++ variable x.name.text t (length locals) ∷ []) (locals ++ t ∷ []) xs
-    Ok (made (s ∷ rest.tree) rest.locals)
+  unfoldable pub judge_begins : Here → TypeName → Specified → List Var → List Ty → List Declarator
+      → Checked (Made (List k.Stmt))
+  judge_begins here x s vs locals [] = Ok (made [] locals)
+  judge_begins here x s vs locals (d ∷ ds) = do
+    b ← judge_begin here x s vs (length locals) d.mark d.name d.initializer
+    rest ← judge_begins here x s (vs ++ declared_at s d (length locals) ∷ [])
+        (locals ++ variable_type d.mark s ∷ []) ds
+    Ok (made (b ∷ rest.tree) rest.locals)
 
-  unfoldable pub judge_variables : Here → List Var → List Ty → Variables → Checked (Made (List k.Stmt))
+  unfoldable pub judge_variables : Here → List Var → List Ty → Variables
+      → Checked (Made (List k.Stmt))
   judge_variables here vs locals x = do
-    t ← judge_type x.type_name
-    judge_begins here t vs locals x.names
+    s ← judge_type env.classes x.type_name
+    judge_begins here x.type_name s vs locals x.names
 
   unfoldable pub judge_start : Here → List Var → List Ty → Start → Checked (Made (List k.Stmt))
   judge_start here vs locals no_start = Ok (made (block_of [] ∷ []) locals)
@@ -86,7 +90,8 @@ module _ (env : Environment) where
     x ← judge (inside env vs) e
     Ok (k.run x.core)
 
-  unfoldable pub judge_loop : List Var → Option Expr → Option Expr → Checked (Made (List k.Stmt)) → Checked (Made k.Stmt)
+  unfoldable pub judge_loop : List Var → Option Expr → Option Expr → Checked (Made (List k.Stmt))
+      → Checked (Made k.Stmt)
   judge_loop vs c s body = do
     test ← judge_test vs c
     step ← judge_step vs s
@@ -127,8 +132,9 @@ module _ (env : Environment) where
       Ok (made (k.do_while (stmts_of x.tree) c ∷ []) x.locals)
     judge_stmt here vs locals (for_do p start c s a) = do
       first ← judge_start (within here vs) vs locals start
-      loop ← judge_loop (behind_start vs locals start) c s
-          (judge_stmt (turn_within here (behind_start vs locals start)) (behind_start vs locals start) first.locals a)
+      loop ← judge_loop (behind_start env.classes vs locals start) c s
+          (judge_stmt (turn_within here (behind_start env.classes vs locals start))
+          (behind_start env.classes vs locals start) first.locals a)
       Ok (made (first.tree ++ loop.tree ∷ []) loop.locals)
     judge_stmt here vs locals (break p) = do
       u ← judge_jump here p (codes "break")
@@ -147,5 +153,5 @@ module _ (env : Environment) where
     judge_stmts here vs locals no_stmts = Ok (made [] locals)
     judge_stmts here vs locals (stmt_and s ss) = do
       x ← judge_stmt here vs locals s
-      rest ← judge_stmts here (behind vs locals s) x.locals ss
+      rest ← judge_stmts here (behind env.classes vs locals s) x.locals ss
       Ok (made (nodes_of s x.tree ++ rest.tree) rest.locals)

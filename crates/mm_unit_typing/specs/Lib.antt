@@ -1,9 +1,15 @@
-pub mod Declarators
+pub mod Types
 pub mod Scopes
 pub mod Made
 pub mod Statements
+pub mod Heads
 pub mod Functions
+pub mod Bodies
+pub mod Members
+pub mod Classes
 pub mod Units
 pub mod Laws
 pub mod Judge
+pub mod JudgeHeads
+pub mod JudgeClasses
 pub mod JudgeUnit

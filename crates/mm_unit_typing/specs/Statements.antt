@@ -1,101 +1,117 @@
--- What a statement is typed as, and which fault it has. (ISO/IEC 14882:1998, 3.3, 6 and 8.5. Own: the order of faults.
--- Those of the parts of a statement count before its own, in the order of the text; a missing conversion of a
--- condition counts right behind the condition.)
+-- What a statement is typed as, and which fault it has. (ISO/IEC 14882:1998, 3.3, 6 and 8.5. Own:
+-- the order of faults. Those of the parts of a statement count before its own, in the order of the
+-- text; a missing conversion of a condition counts right behind the condition; those of a
+-- declarator come by their codes.)
 use Rattle.std.specs.Prelude.{◌≡◌, ℕ, true, not, List, [], ◌∷◌, ◌++◌, length, codes, Option, Some, None}
 use Rattle.mm_base.specs.declared.code.TheConstants.Code.{S13, S14}
+use Rattle.mm_classes.specs.Classes.{Class}
 use Rattle.mm_classes.specs.declared.class.Ty.{Ty}
 use Rattle.mm_classes.specs.declared.class.Ty.TheVariants as ty
 use Rattle.mm_core.specs.Tree as k
 use Rattle.mm_core.specs.View.{stmts_of}
 use Rattle.mm_syntax.specs.declared.name.Name.{Name}
 use Rattle.mm_syntax.specs.declared.name.DeclaratorMark.{DeclaratorMark}
+use Rattle.mm_syntax.specs.declared.expr.TypeName.{TypeName}
 use Rattle.mm_syntax.specs.Forms.{mark_or}
 use Rattle.mm_syntax.specs.Tree.{Expr, Declarator, Variables, Initializer, no_initial, initial, arguments, Start, no_start, start_expr, start_variables, Stmt, block, empty, run, declare, if_then, if_else, while_do, do_while, for_do, break, continue, return_nothing, return, Stmts, no_stmts, stmt_and}
-use Rattle.mm_checks.specs.Checks.{Fault, at, Then, First, Met, Unmet}
+use Rattle.mm_checks.specs.Checks.{Fault, at, Then, First, Met, Unmet, Is, IsMissing}
 use Rattle.mm_scopes.specs.declared.head.Var.{Var}
 use Rattle.mm_scopes.specs.Environment.{Environment}
 use Rattle.mm_typing.specs.Conversions.{is_void, Becomes, BecomesNot}
 use Rattle.mm_typing.specs.Typing.{Types, Faults, TypesAs, FaultsAs}
 use Rattle.mm_unit_typing.specs.declared.here.Here.{Here}
-use Rattle.mm_unit_typing.specs.Declarators.{Names, NamesNone, holds_value, is_reserved, wrong_kind, declared_twice, is_not_yours, unbuilt}
-use Rattle.mm_unit_typing.specs.Scopes.{inside, is_new, within, turn_within, variable, behind, behind_start}
-use Rattle.mm_unit_typing.specs.Made.{Made, made, zero_of, block_of, nodes_of}
+use Rattle.mm_unit_typing.specs.Types.{Specified, Names, NamesNone, value_type, variable_type, is_whole, wrong_kind, declared_twice, incomplete_type, unbuilt, IsYours, IsNotYours}
+use Rattle.mm_unit_typing.specs.Scopes.{inside, is_new, within, turn_within, declared_at, behind, behind_start}
+use Rattle.mm_unit_typing.specs.Made.{Made, made, begun, block_of, nodes_of}
 
 -- ---- what a declarator is asked
 
--- the name is new in its scope, and what it names holds a value
-abbrev pub MayStand : ℕ → List Var → Ty → Option DeclaratorMark → Name → Unit {0} → Type 0
-MayStand outer vs t mark name =
+-- the name is new in its scope, and a class variable is of a complete class
+abbrev pub MayStand : List Class → ℕ → List Var → TypeName → Specified → Option DeclaratorMark
+    → Name → Unit {0} → Type 0
+MayStand g outer vs x s mark name =
     Then (Met (is_new outer vs name.text)) λ u.
-    Met (holds_value mark t)
+    Met (is_whole g mark s)
 
-abbrev pub MayNotStand : ℕ → List Var → Ty → Option DeclaratorMark → Name → Fault → Type 0
-MayNotStand outer vs t mark name =
-    First (Met (is_new outer vs name.text)) (Unmet (is_new outer vs name.text) (declared_twice name)) λ u.
-    Unmet (holds_value mark t) (wrong_kind mark name)
-
--- the name is one that a program may declare
-abbrev pub IsYours : Name → Unit {0} → Type 0
-IsYours name = Met (not (is_reserved name.text))
-
-abbrev pub IsNotYours : Name → Fault → Type 0
-IsNotYours name = Unmet (not (is_reserved name.text)) (is_not_yours name)
+abbrev pub MayNotStand : List Class → ℕ → List Var → TypeName → Specified → Option DeclaratorMark
+    → Name → Fault → Type 0
+MayNotStand g outer vs x s mark name =
+    First (Met (is_new outer vs name.text))
+    (Unmet (is_new outer vs name.text) (declared_twice name)) λ u.
+    Unmet (is_whole g mark s) (incomplete_type x)
 
 module _ (env : Environment) where
   -- ---- declarations
 
-  -- the statement that gives a variable its first value: the local of number n
-  abbrev pub Begins : Here → Ty → List Var → ℕ → Option DeclaratorMark → Name → Initializer → k.Stmt → Type 0
-  Begins here t vs n mark name no_initial =
-      Then (MayStand here.outer vs t mark name) λ u.
-      Then (IsYours name) λ w s.
-      k.run (k.set_local n (zero_of t)) ≡ s
-  Begins here t vs n mark name (initial e) =
-      Then (Types (inside env vs) e) λ x.
-      Then (MayStand here.outer vs t mark name) λ u.
-      Then (Becomes (inside env vs) t x) λ c.
-      Then (IsYours name) λ w s.
-      k.run (k.set_local n c) ≡ s
-  Begins here t vs n mark name (arguments es) = λ s. ⊥
+  -- The statement that gives a variable its first value: the local of number n. Its type is that of
+  -- the words s of x with the mark.
+  abbrev pub Begins : Here → TypeName → Specified → List Var → ℕ → Option DeclaratorMark → Name
+      → Initializer → k.Stmt → Type 0
+  Begins here x s vs n mark name no_initial =
+      Then (MayStand env.classes here.outer vs x s mark name) λ u.
+      Then (Is (begun n mark s)) λ b.
+      Then (IsYours name) λ w v.
+      b ≡ v
+  Begins here x s vs n mark name (initial e) =
+      Then (Types (inside env vs) e) λ y.
+      Then (MayStand env.classes here.outer vs x s mark name) λ u.
+      Then (Is (value_type mark s)) λ t.
+      Then (Becomes (inside env vs) t y) λ c.
+      Then (IsYours name) λ w v.
+      k.run (k.set_local n c) ≡ v
+  Begins here x s vs n mark name (arguments es) = λ v. ⊥
 
-  abbrev pub BeginsNot : Here → Ty → List Var → Option DeclaratorMark → Name → Initializer → Fault → Type 0
-  BeginsNot here t vs mark name no_initial =
-      First (MayStand here.outer vs t mark name) (MayNotStand here.outer vs t mark name) λ u.
+  abbrev pub BeginsNot : Here → TypeName → Specified → List Var → ℕ → Option DeclaratorMark → Name
+      → Initializer → Fault → Type 0
+  BeginsNot here x s vs n mark name no_initial =
+      First (MayStand env.classes here.outer vs x s mark name)
+      (MayNotStand env.classes here.outer vs x s mark name) λ u.
+      First (Is (begun n mark s)) (IsMissing (begun n mark s) (wrong_kind mark name)) λ b.
       IsNotYours name
-  BeginsNot here t vs mark name (initial e) =
-      First (Types (inside env vs) e) (Faults (inside env vs) e) λ x.
-      First (MayStand here.outer vs t mark name) (MayNotStand here.outer vs t mark name) λ u.
-      First (Becomes (inside env vs) t x) (BecomesNot (inside env vs) t e x) λ c.
+  BeginsNot here x s vs n mark name (initial e) =
+      First (Types (inside env vs) e) (Faults (inside env vs) e) λ y.
+      First (MayStand env.classes here.outer vs x s mark name)
+      (MayNotStand env.classes here.outer vs x s mark name) λ u.
+      First (Is (value_type mark s)) (IsMissing (value_type mark s) (wrong_kind mark name)) λ t.
+      First (Becomes (inside env vs) t y) (BecomesNot (inside env vs) t e y) λ c.
       IsNotYours name
-  BeginsNot here t vs mark name (arguments es) = λ f. unbuilt (mark_or mark name.place) ≡ f
+  BeginsNot here x s vs n mark name (arguments es) = λ f. unbuilt (mark_or mark name.place) ≡ f
 
   -- a variable is seen behind its own initializer, by the next ones too
-  abbrev pub AllBegin : Here → Ty → List Var → List Ty → List Declarator → Made (List k.Stmt) → Type 0
-  AllBegin here t vs locals [] = λ v. made [] locals ≡ v
-  AllBegin here t vs locals (x ∷ xs) =
-      Then (Begins here t vs (length locals) x.mark x.name x.initializer) λ s.
-      Then (AllBegin here t (vs ++ variable x.name.text t (length locals) ∷ []) (locals ++ t ∷ []) xs) λ rest v.
-      made (s ∷ rest.tree) rest.locals ≡ v
+  abbrev pub AllBegin : Here → TypeName → Specified → List Var → List Ty → List Declarator
+      → Made (List k.Stmt) → Type 0
+  AllBegin here x s vs locals [] = λ v. made [] locals ≡ v
+  AllBegin here x s vs locals (d ∷ ds) =
+      Then (Begins here x s vs (length locals) d.mark d.name d.initializer) λ b.
+      Then (AllBegin here x s (vs ++ declared_at s d (length locals) ∷ [])
+      (locals ++ variable_type d.mark s ∷ []) ds) λ rest v.
+      made (b ∷ rest.tree) rest.locals ≡ v
 
-  abbrev pub SomeBeginsNot : Here → Ty → List Var → List Ty → List Declarator → Fault → Type 0
-  SomeBeginsNot here t vs locals [] = λ f. ⊥
-  SomeBeginsNot here t vs locals (x ∷ xs) =
-      First (Begins here t vs (length locals) x.mark x.name x.initializer) (BeginsNot here t vs x.mark x.name x.initializer) λ s.
-      SomeBeginsNot here t (vs ++ variable x.name.text t (length locals) ∷ []) (locals ++ t ∷ []) xs
+  abbrev pub SomeBeginsNot : Here → TypeName → Specified → List Var → List Ty → List Declarator
+      → Fault → Type 0
+  SomeBeginsNot here x s vs locals [] = λ f. ⊥
+  SomeBeginsNot here x s vs locals (d ∷ ds) =
+      First (Begins here x s vs (length locals) d.mark d.name d.initializer)
+      (BeginsNot here x s vs (length locals) d.mark d.name d.initializer) λ b.
+      SomeBeginsNot here x s (vs ++ declared_at s d (length locals) ∷ [])
+      (locals ++ variable_type d.mark s ∷ []) ds
 
   abbrev pub VariablesType : Here → List Var → List Ty → Variables → Made (List k.Stmt) → Type 0
-  VariablesType here vs locals x = Then (Names x.type_name) λ t. AllBegin here t vs locals x.names
+  VariablesType here vs locals x =
+      Then (Names env.classes x.type_name) λ s. AllBegin here x.type_name s vs locals x.names
 
   abbrev pub VariablesFault : Here → List Var → List Ty → Variables → Fault → Type 0
   VariablesFault here vs locals x =
-      First (Names x.type_name) (NamesNone x.type_name) λ t. SomeBeginsNot here t vs locals x.names
+      First (Names env.classes x.type_name) (NamesNone env.classes x.type_name) λ s.
+      SomeBeginsNot here x.type_name s vs locals x.names
 
   -- ---- the parts of `for`
 
   -- what stands before the loop, in its block; where nothing stands there, an empty block
   abbrev pub StartTypes : Here → List Var → List Ty → Start → Made (List k.Stmt) → Type 0
   StartTypes here vs locals no_start = λ v. made (block_of [] ∷ []) locals ≡ v
-  StartTypes here vs locals (start_expr e) = Then (Types (inside env vs) e) λ x v. made (k.run x.core ∷ []) locals ≡ v
+  StartTypes here vs locals (start_expr e) =
+      Then (Types (inside env vs) e) λ x v. made (k.run x.core ∷ []) locals ≡ v
   StartTypes here vs locals (start_variables x) = VariablesType here vs locals x
 
   abbrev pub StartFaults : Here → List Var → List Ty → Start → Fault → Type 0
@@ -122,7 +138,8 @@ module _ (env : Environment) where
   StepFaults vs (Some e) = Faults (inside env vs) e
 
   -- the loop of a `for`, whose body is typed so
-  abbrev pub LoopTypes : List Var → Option Expr → Option Expr → (Made (List k.Stmt) → Type 0) → Made k.Stmt → Type 0
+  abbrev pub LoopTypes : List Var → Option Expr → Option Expr → (Made (List k.Stmt) → Type 0)
+      → Made k.Stmt → Type 0
   LoopTypes vs c s IsBody =
       Then (TestTypes vs c) λ test.
       Then (StepTypes vs s) λ step.
@@ -137,13 +154,15 @@ module _ (env : Environment) where
 
   -- ---- statements
 
-  -- Typed as a list of statements: those of the block that it is, or those that stand where it stands. Each statement
-  -- under another has a scope of its own, and so has a `for` with its first part.
+  -- Typed as a list of statements: those of the block that it is, or those that stand where it
+  -- stands. Each statement under another has a scope of its own, and so has a `for` with its first
+  -- part.
   abbrev mutual
     pub StmtTypes : Here → List Var → List Ty → Stmt → Made (List k.Stmt) → Type 0
     StmtTypes here vs locals (block p ss) = StmtsType (within here vs) vs locals ss
     StmtTypes here vs locals (empty p) = λ v. made [] locals ≡ v
-    StmtTypes here vs locals (run p e) = Then (Types (inside env vs) e) λ x v. made (k.run x.core ∷ []) locals ≡ v
+    StmtTypes here vs locals (run p e) =
+        Then (Types (inside env vs) e) λ x v. made (k.run x.core ∷ []) locals ≡ v
     StmtTypes here vs locals (declare p x) = VariablesType here vs locals x
     StmtTypes here vs locals (if_then p e a) =
         Then (TypesAs (inside env vs) ty.Bool e) λ c.
@@ -164,11 +183,14 @@ module _ (env : Environment) where
         made (k.do_while (stmts_of x.tree) c ∷ []) x.locals ≡ v
     StmtTypes here vs locals (for_do p start c s a) =
         Then (StartTypes (within here vs) vs locals start) λ first.
-        Then (LoopTypes (behind_start vs locals start) c s
-        (StmtTypes (turn_within here (behind_start vs locals start)) (behind_start vs locals start) first.locals a)) λ loop v.
+        Then (LoopTypes (behind_start env.classes vs locals start) c s
+        (StmtTypes (turn_within here (behind_start env.classes vs locals start))
+        (behind_start env.classes vs locals start) first.locals a)) λ loop v.
         made (first.tree ++ loop.tree ∷ []) loop.locals ≡ v
-    StmtTypes here vs locals (break p) = Then (Met here.in_loop) λ u v. made (k.break ∷ []) locals ≡ v
-    StmtTypes here vs locals (continue p) = Then (Met here.in_loop) λ u v. made (k.continue ∷ []) locals ≡ v
+    StmtTypes here vs locals (break p) =
+        Then (Met here.in_loop) λ u v. made (k.break ∷ []) locals ≡ v
+    StmtTypes here vs locals (continue p) =
+        Then (Met here.in_loop) λ u v. made (k.continue ∷ []) locals ≡ v
     StmtTypes here vs locals (return_nothing p) =
         Then (Met (is_void here.result)) λ u v. made (k.return_nothing ∷ []) locals ≡ v
     StmtTypes here vs locals (return p e) =
@@ -182,7 +204,7 @@ module _ (env : Environment) where
     StmtsType here vs locals no_stmts = λ v. made [] locals ≡ v
     StmtsType here vs locals (stmt_and s ss) =
         Then (StmtTypes here vs locals s) λ x.
-        Then (StmtsType here (behind vs locals s) x.locals ss) λ rest v.
+        Then (StmtsType here (behind env.classes vs locals s) x.locals ss) λ rest v.
         made (nodes_of s x.tree ++ rest.tree) rest.locals ≡ v
 
   abbrev mutual
@@ -196,28 +218,34 @@ module _ (env : Environment) where
         StmtFaults (within here vs) vs locals a
     StmtFaults here vs locals (if_else p e a b) =
         First (TypesAs (inside env vs) ty.Bool e) (FaultsAs (inside env vs) ty.Bool e) λ c.
-        First (StmtTypes (within here vs) vs locals a) (StmtFaults (within here vs) vs locals a) λ x.
+        First (StmtTypes (within here vs) vs locals a)
+        (StmtFaults (within here vs) vs locals a) λ x.
         StmtFaults (within here vs) vs x.locals b
     StmtFaults here vs locals (while_do p e a) =
         First (TypesAs (inside env vs) ty.Bool e) (FaultsAs (inside env vs) ty.Bool e) λ c.
         StmtFaults (turn_within here vs) vs locals a
     StmtFaults here vs locals (do_while p a e) =
-        First (StmtTypes (turn_within here vs) vs locals a) (StmtFaults (turn_within here vs) vs locals a) λ x.
+        First (StmtTypes (turn_within here vs) vs locals a)
+        (StmtFaults (turn_within here vs) vs locals a) λ x.
         FaultsAs (inside env vs) ty.Bool e
     StmtFaults here vs locals (for_do p start c s a) =
-        First (StartTypes (within here vs) vs locals start) (StartFaults (within here vs) vs locals start) λ first.
-        LoopFaults (behind_start vs locals start) c s
-        (StmtFaults (turn_within here (behind_start vs locals start)) (behind_start vs locals start) first.locals a)
+        First (StartTypes (within here vs) vs locals start)
+        (StartFaults (within here vs) vs locals start) λ first.
+        LoopFaults (behind_start env.classes vs locals start) c s
+        (StmtFaults (turn_within here (behind_start env.classes vs locals start))
+        (behind_start env.classes vs locals start) first.locals a)
     StmtFaults here vs locals (break p) = Unmet here.in_loop (at S13 p (codes "break"))
     StmtFaults here vs locals (continue p) = Unmet here.in_loop (at S13 p (codes "continue"))
-    StmtFaults here vs locals (return_nothing p) = Unmet (is_void here.result) (at S14 p (codes "return"))
+    StmtFaults here vs locals (return_nothing p) =
+        Unmet (is_void here.result) (at S14 p (codes "return"))
     StmtFaults here vs locals (return p e) =
         First (Types (inside env vs) e) (Faults (inside env vs) e) λ x.
-        First (Met (not (is_void here.result))) (Unmet (not (is_void here.result)) (at S14 p (codes "return"))) λ u.
+        First (Met (not (is_void here.result)))
+        (Unmet (not (is_void here.result)) (at S14 p (codes "return"))) λ u.
         BecomesNot (inside env vs) here.result e x
 
     pub StmtsFault : Here → List Var → List Ty → Stmts → Fault → Type 0
     StmtsFault here vs locals no_stmts = λ f. ⊥
     StmtsFault here vs locals (stmt_and s ss) =
         First (StmtTypes here vs locals s) (StmtFaults here vs locals s) λ x.
-        StmtsFault here (behind vs locals s) x.locals ss
+        StmtsFault here (behind env.classes vs locals s) x.locals ss

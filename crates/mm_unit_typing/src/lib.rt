@@ -1,4 +1,5 @@
-//! What statements, functions and units are typed as, and which is their first fault. Definitions and laws alone.
+//! What statements, functions and units are typed as, and which is their first fault. Definitions
+//! and laws alone.
 #![tactic(auto)]
 
 pub mod here;
