@@ -67,6 +67,13 @@ impl Env {
         &self.graph
     }
 
+    /// The classes alone; the variables and the functions are dropped.
+    pub fn into_graph(self) -> Graph
+        ensures { result ≡ self.classes }
+    {
+        self.graph
+    }
+
     /// From where members are used.
     pub fn from(&self) -> Context
         ensures from { result ≡ self.now.from }
