@@ -71,7 +71,13 @@ impl Env {
     pub fn into_graph(self) -> Graph
         ensures { result ≡ self.classes }
     {
-        self.graph
+        let Env {
+            graph,
+            from: _,
+            vars: _,
+            functions: _,
+        } = self;
+        graph
     }
 
     /// From where members are used.
