@@ -57,9 +57,9 @@ abbrev pub signature : List Class → Function → List ℕ
 signature g f =
     f.name ++ (codes "(" ++ (with_commas (map (type_text g) (types_of_params f.params)) ++ codes ")"))
 
-abbrev pub lack_of : Function → Lack
-lack_of f = record { place = f.place; signature = signature [] f }
+abbrev pub lack_of : List Class → Function → Lack
+lack_of g f = record { place = f.place; signature = signature g f }
 
-abbrev pub lack_in : Option Function → Option Lack
-lack_in None = None
-lack_in (Some f) = Some (lack_of f)
+abbrev pub lack_in : List Class → Option Function → Option Lack
+lack_in g None = None
+lack_in g (Some f) = Some (lack_of g f)

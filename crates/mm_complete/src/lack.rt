@@ -3,6 +3,7 @@
 ghost use Rattle.std.specs.Prelude.{◌≡◌, ℕ, ◌++◌, [], List, IfOk, length, map, string_bytes};
 ghost use Rattle.std.specs.Option.{option_copied};
 ghost use Rattle.std.specs.List.{list_any};
+ghost use Rattle.mm_classes.specs.Classes.{name_of};
 ghost use Rattle.mm_classes.specs.Lists.{has};
 ghost use Rattle.mm_core.specs.declared.part.CoreParam.{CoreParam};
 ghost use Rattle.mm_core.specs.Heads.{types_of_params};
@@ -14,13 +15,15 @@ use crate::callees::add_called;
 use mm_base::place::Place;
 use mm_base::text::Text;
 use mm_classes::class::Ty;
+use mm_classes::id::ClassId;
 use mm_core::part::CoreParam;
 use mm_core::tree::CoreFn;
+use mm_paths::graph::Graph;
 use sqlite_items::Items;
 use std::alloc::{AllocError, Global};
 
 /// A function that is not defined: where it is declared first, and its name and the types of its
-/// parameters, as `f(int,bool)`.
+/// parameters, as `f(int,A&)`.
 #[derive(Drop)]
 pub struct Lack {
     pub place: Place,
@@ -78,49 +81,70 @@ fn first_lacking<'a>(functions: &'a [CoreFn], marks: &[bool]) -> Option<&'a Core
     None
 }
 
-fn type_text(ty: Ty) -> &'static str
-    ensures { result.now ≡ type_text [] ty }
+// The name of a class; nothing where it is not declared.
+fn class_name(graph: &Graph, class: ClassId) -> &str
+    ensures { result.now ≡ name_of graph.now class }
+{
+    if graph.is_declared(class) {
+        graph.name(class)
+    } else {
+        ""
+    }
+}
+
+// Adds the name of a class with a mark.
+fn add_class(text: &mut String, graph: &Graph, class: ClassId, mark: &str) -> Result<(), AllocError>
+    ensures { IfOk result (λ _. string_bytes text.new ≡ string_bytes text.old ++ (name_of graph.now class ++ mark.now)) }
+{
+    text.push_str(class_name(graph, class))?;
+    text.push_str(mark)?;
+    Ok(())
+}
+
+// Adds a type.
+fn add_type(text: &mut String, graph: &Graph, ty: Ty) -> Result<(), AllocError>
+    ensures { IfOk result (λ _. string_bytes text.new ≡ string_bytes text.old ++ type_text graph.now ty) }
 {
     match ty {
-        Ty::Void => "void",
-        Ty::Bool => "bool",
-        Ty::Int => "int",
-        Ty::Unsigned => "unsigned",
-        Ty::Ptr(_) => "*",
-        Ty::Ref(_) => "&",
+        Ty::Void => text.push_str("void"),
+        Ty::Bool => text.push_str("bool"),
+        Ty::Int => text.push_str("int"),
+        Ty::Unsigned => text.push_str("unsigned"),
+        Ty::Ptr(class) => add_class(text, graph, class, "*"),
+        Ty::Ref(class) => add_class(text, graph, class, "&"),
     }
 }
 
 // Adds the types of parameters behind a first one.
-fn add_types(text: &mut String, params: &[CoreParam]) -> Result<(), AllocError>
-    ensures { IfOk result (λ _. string_bytes text.new ≡ string_bytes text.old ++ comma_and (map (type_text []) (types_of_params params.now))) }
+fn add_types(text: &mut String, graph: &Graph, params: &[CoreParam]) -> Result<(), AllocError>
+    ensures { IfOk result (λ _. string_bytes text.new ≡ string_bytes text.old ++ comma_and (map (type_text graph.now) (types_of_params params.now))) }
 {
     for param in params {
         text.push_str(",")?;
-        text.push_str(type_text(param.ty))?;
+        add_type(text, graph, param.ty)?;
     }
     Ok(())
 }
 
 // Adds the types of parameters, with commas.
-fn add_params(text: &mut String, params: &[CoreParam]) -> Result<(), AllocError>
-    ensures { IfOk result (λ _. string_bytes text.new ≡ string_bytes text.old ++ with_commas (map (type_text []) (types_of_params params.now))) }
+fn add_params(text: &mut String, graph: &Graph, params: &[CoreParam]) -> Result<(), AllocError>
+    ensures { IfOk result (λ _. string_bytes text.new ≡ string_bytes text.old ++ with_commas (map (type_text graph.now) (types_of_params params.now))) }
 {
     match params {
         [] => Ok(()),
         [first, more @ ..] => {
-            text.push_str(type_text(first.ty))?;
-            add_types(text, more)
+            add_type(text, graph, first.ty)?;
+            add_types(text, graph, more)
         }
     }
 }
 
-fn lack_of(alloc: Global, function: &CoreFn) -> Result<Lack, AllocError>
-    ensures { IfOk result (λ l. l ≡ lack_of (function_view function.now)) }
+fn lack_of(alloc: Global, graph: &Graph, function: &CoreFn) -> Result<Lack, AllocError>
+    ensures { IfOk result (λ l. l ≡ lack_of graph.now (function_view function.now)) }
 {
     let mut text = String::from_str(alloc, function.name.as_str())?;
     text.push_str("(")?;
-    add_params(&mut text, function.params.as_slice())?;
+    add_params(&mut text, graph, function.params.as_slice())?;
     text.push_str(")")?;
     Ok(Lack {
         place: function.place,
@@ -128,15 +152,20 @@ fn lack_of(alloc: Global, function: &CoreFn) -> Result<Lack, AllocError>
     })
 }
 
-/// The first function that these call, or that is an open-method, and that is not defined.
-pub fn lacking(alloc: Global, functions: &[CoreFn]) -> Result<Option<Lack>, AllocError>
-    ensures { IfOk result (λ l. l ≡ lack_in (lacking (map function_view functions.now))) }
+/// The first function that these call, or that is an open-method, and that is not defined. The
+/// classes are those that its types name.
+pub fn lacking(
+    alloc: Global,
+    graph: &Graph,
+    functions: &[CoreFn],
+) -> Result<Option<Lack>, AllocError>
+    ensures { IfOk result (λ l. l ≡ lack_in graph.now (lacking (map function_view functions.now))) }
 {
     let mut numbers = Items::new(alloc);
     add_called(functions, &mut numbers)?;
     let marks = mark(alloc, numbers.as_slice(), functions.len())?;
     match first_lacking(functions, marks.as_slice()) {
-        Some(function) => Ok(Some(lack_of(alloc, function)?)),
+        Some(function) => Ok(Some(lack_of(alloc, graph, function)?)),
         None => Ok(None),
     }
 }

@@ -1,4 +1,4 @@
-use Rattle.std.proofs.Common.{[], ◌++◌, map, refl, ap, ◌∙◌, append_assoc}
+use Rattle.std.proofs.Common.{◌++◌, map, refl, ap, ◌∙◌, append_assoc}
 use Rattle.std.specs.Prelude.{string_bytes, codes}
 use Rattle.mm_core.specs.Heads.{types_of_params}
 use Rattle.mm_core.specs.declared.part.CoreParam.{CoreParam}
@@ -8,8 +8,10 @@ use Rattle.mm_complete.proofs.lack.add_types.Goals as goal
 
 pub loop-param-preserved : goal.loop-param-preserved
 loop-param-preserved c =
-    let more = c.in_ok-push_str-2.ensures.bytes ∙ ap (λ t. t ++ c.type_text.result.now) c.in_ok-push_str.ensures.bytes ∙ append_assoc (string_bytes c.loop-param.text) (codes ",") c.type_text.result.now ∙ ap (λ t. string_bytes c.loop-param.text ++ (codes "," ++ t)) c.type_text.ensures in
-    next (λ xs. comma_and (map (type_text []) (types_of_params xs))) (λ (x : CoreParam). codes "," ++ type_text [] x.ty) (λ x xs. refl) refl (string_bytes c.args.text.now) c.args.params.now c.loop-param.param-index c.param-item.result (string_bytes c.loop-param.text) c.param-item.is c.loop-param-test.true c.loop-param.invariant (string_bytes c.push_str-in-loop-param.new.self) more
+    let g = c.args.graph.now in
+    let this = type_text g c.param-item.result.ty in
+    let more = c.in_ok-add_type.ensures ∙ ap (λ t. t ++ this) c.in_ok-push_str.ensures.bytes ∙ append_assoc (string_bytes c.loop-param.text) (codes ",") this in
+    next (λ xs. comma_and (map (type_text g) (types_of_params xs))) (λ (x : CoreParam). codes "," ++ type_text g x.ty) (λ x xs. refl) refl (string_bytes c.args.text.now) c.args.params.now c.loop-param.param-index c.param-item.result (string_bytes c.loop-param.text) c.param-item.is c.loop-param-test.true c.loop-param.invariant (string_bytes c.add_type.new.text) more
 
 pub returns : goal.returns
-returns c = end (λ xs. comma_and (map (type_text []) (types_of_params xs))) (λ (x : CoreParam). codes "," ++ type_text [] x.ty) (λ x xs. refl) refl (string_bytes c.args.text.now) c.args.params.now c.loop-param.param-index (string_bytes c.loop-param.text) c.loop-param-test.false c.loop-param.invariant
+returns c = let g = c.args.graph.now in end (λ xs. comma_and (map (type_text g) (types_of_params xs))) (λ (x : CoreParam). codes "," ++ type_text g x.ty) (λ x xs. refl) refl (string_bytes c.args.text.now) c.args.params.now c.loop-param.param-index (string_bytes c.loop-param.text) c.loop-param-test.false c.loop-param.invariant
