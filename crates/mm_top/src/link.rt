@@ -1,6 +1,6 @@
 // `link`: from a unit to its C text.
 
-ghost use Rattle.std.specs.Prelude.{IfOk, [], map};
+ghost use Rattle.std.specs.Prelude.{IfOk};
 ghost use Rattle.mm_base.specs.Outside.{SourceSeen};
 ghost use Rattle.mm_token.specs.Causes.{AreKept};
 ghost use Rattle.mm_core.specs.View.{program_view};
@@ -17,21 +17,22 @@ use mm_base::code::NoMemory;
 use mm_base::outside::Files;
 use mm_c_print::print;
 use mm_command::writing::Outcome;
-use mm_core::tree::CoreFn;
 use mm_emit::program::lower_program;
+use mm_program::joined::CoreProgram;
 use mm_verdict::forms::unbuilt_in_link;
 use mm_verdict::unit::sound_unit;
 use std::alloc::Global;
 
 // The C text of a program without classes.
-fn translated(alloc: Global, functions: &[CoreFn]) -> Result<Outcome, NoMemory>
-    requires scalar { IsScalar (program_view [] functions.now) }
-    requires shallow { IsShallow (program_view [] functions.now) }
-    requires few { FewTemporaries (program_view [] functions.now) }
-    ensures { IfOk result (λ x. IsOutcome (Translated (program_view [] functions.now)) x) }
+fn translated(alloc: Global, program: &CoreProgram) -> Result<Outcome, NoMemory>
+    requires scalar { IsScalar (program_view program.now.graph program.now.functions) }
+    requires shallow { IsShallow (program_view program.now.graph program.now.functions) }
+    requires few { FewTemporaries (program_view program.now.graph program.now.functions) }
+    ensures { IfOk result (λ x. IsOutcome
+        (Translated (program_view program.now.graph program.now.functions)) x) }
 {
-    let program = lower_program(alloc, functions)?;
-    let text = print(alloc, &program)?;
+    let in_c = lower_program(alloc, program.functions.as_slice())?;
+    let text = print(alloc, &in_c)?;
     Ok(Outcome {
         status: 0,
         text,
@@ -46,7 +47,7 @@ pub fn link<F: Files>(alloc: Global, name: &str, files: &mut F) -> Result<Outcom
     ensures files { AreKept (F.seen files.old) (F.seen files.new) }
 {
     match sound_unit(alloc, name, unbuilt_in_link(), files) {
-        Ok(functions) => translated(alloc, functions.as_slice()),
+        Ok(program) => translated(alloc, &program),
         Err(reason) => refused(alloc, &reason),
     }
 }

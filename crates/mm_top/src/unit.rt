@@ -17,30 +17,30 @@ use crate::running::run_program;
 use mm_base::code::NoMemory;
 use mm_base::outside::{Files, Source};
 use mm_command::writing::Outcome;
-use mm_core::tree::CoreFn;
 use mm_emit::program::lower_program;
+use mm_program::joined::CoreProgram;
 use mm_verdict::forms::unbuilt_in_link;
 use mm_verdict::unit::sound_unit;
 use std::alloc::Global;
 
-// Runs the program of these functions, which has no classes, on the input, by its C program.
-fn run_functions<I: Source>(
+// Runs a program without classes on the input, by its C program.
+fn run_checked<I: Source>(
     alloc: Global,
-    functions: &[CoreFn],
+    program: &CoreProgram,
     input: &mut I,
     steps: u64,
 ) -> Result<Outcome, NoMemory>
-    requires scalar { IsScalar (program_view [] functions.now) }
-    requires shallow { IsShallow (program_view [] functions.now) }
-    requires few { FewTemporaries (program_view [] functions.now) }
-    ensures content { IfOk result (λ x. RunsTo
-        (λ ns. outcome_in_c (source_run (program_view [] functions.now) ns steps))
+    requires scalar { IsScalar (program_view program.now.graph program.now.functions) }
+    requires shallow { IsShallow (program_view program.now.graph program.now.functions) }
+    requires few { FewTemporaries (program_view program.now.graph program.now.functions) }
+    ensures content { IfOk result (λ x. RunsTo (λ ns. outcome_in_c
+        (source_run (program_view program.now.graph program.now.functions) ns steps))
         (record { old = I.seen input.old; new = I.seen input.new }) x) }
     ensures front { TakesSome (I.seen input.old) (I.seen input.new) }
     ensures later { (I.seen input.old).faults ≤ (I.seen input.new).faults }
 {
-    match lower_program(alloc, functions) {
-        Ok(program) => run_program(alloc, &program, input, steps),
+    match lower_program(alloc, program.functions.as_slice()) {
+        Ok(in_c) => run_program(alloc, &in_c, input, steps),
         Err(_) => Err(NoMemory),
     }
 }
@@ -61,7 +61,7 @@ pub fn run<F: Files, I: Source>(
     ensures later { (I.seen input.old).faults ≤ (I.seen input.new).faults }
 {
     match sound_unit(alloc, name, unbuilt_in_link(), files) {
-        Ok(functions) => run_functions(alloc, functions.as_slice(), input, steps),
+        Ok(program) => run_checked(alloc, &program, input, steps),
         Err(reason) => refused(alloc, &reason),
     }
 }

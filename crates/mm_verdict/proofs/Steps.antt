@@ -16,12 +16,16 @@ use Rattle.mm_syntax.specs.View.{unit_view}
 use Rattle.mm_parse_unit.specs.Units.{IsSyntaxFault}
 use Rattle.mm_parse_unit.proofs.BoundsKept.{keeps}
 use Rattle.mm_checks.specs.Checks.{at}
-use Rattle.mm_core.specs.declared.tree.CoreFn.{CoreFn}
-use Rattle.mm_core.specs.Tree.{Function}
-use Rattle.mm_core.specs.View.{function_view, program_view}
+use Rattle.mm_program.specs.declared.joined.CoreProgram.{CoreProgram}
+use Rattle.mm_core.specs.Tree.{Function, Program}
+use Rattle.mm_core.specs.View.{program_view}
 use Rattle.mm_lower.specs.Written.{FewTemporaries}
 use Rattle.mm_core.specs.Units.{Checked}
 use Rattle.mm_simulate.specs.Simulates.{IsScalar, IsShallow}
+use Rattle.mm_classes.specs.Classes.{Class}
+use Rattle.mm_syntax.specs.Tree as t
+use Rattle.mm_check_unit.specs.Program.{declarations_of}
+use Rattle.mm_unit_typing.specs.Functions.{Declarations}
 use Rattle.mm_unit_typing.specs.Units.{UnitFaults, unit_of}
 use Rattle.mm_typing_valid.proofs.Called.{typed_unit_is_scalar}
 use Rattle.mm_typing_bounds.specs.Bounded.{NeedsFew}
@@ -79,77 +83,85 @@ typed_of unbuilt tokens tree unit u held name reads =
 
 -- ---- what a program lacks
 
-none_lacks : (o : Option Function) → None ≡ lack_in o → o ≡ None
-none_lacks None e = refl
-none_lacks (Some g) e = absurd (let x : ⊥ = cc in x)
+none_lacks : (cs : List Class) (o : Option Function) → None ≡ lack_in cs o → o ≡ None
+none_lacks cs None e = refl
+none_lacks cs (Some g) e = absurd (let x : ⊥ = cc in x)
 
-some_lacks : (lack : Lack) → Some lack ≡ lack_in None → ⊥
-some_lacks lack e = let x : ⊥ = cc in x
+some_lacks : (cs : List Class) (lack : Lack) → Some lack ≡ lack_in cs None → ⊥
+some_lacks cs lack e = let x : ⊥ = cc in x
 
-is_lack_of : (lack : Lack) (g : Function) → Some lack ≡ lack_in (Some g) → lack ≡ lack_of g
-is_lack_of lack g e = cc
+is_lack_of : (cs : List Class) (lack : Lack) (g : Function) → Some lack ≡ lack_in cs (Some g) → lack ≡ lack_of cs g
+is_lack_of cs lack g e = cc
 
 pub not_both_ways : (b : Bool) → b ≡ false → b ≡ true → ⊥
 not_both_ways b f t = let e : false ≡ true = sym f ∙ t in cc
 
-pub lacks_none : (fs : List Function) → None ≡ lack_in (lacking fs) → lacking fs ≡ None
-lacks_none fs e = none_lacks (lacking fs) e
+pub lacks_none : (d : Declarations) → None ≡ lack_in d.classes (lacking d.functions) → lacking d.functions ≡ None
+lacks_none d e = none_lacks d.classes (lacking d.functions) e
 
-module _ (unbuilt : Forms) (r : Refusal) (name : List ℕ) (tree : UnitTree) (fs : List Function) where
+module _ (unbuilt : Forms) (r : Refusal) (name : List ℕ) (tree : UnitTree) (d : Declarations) where
   abbrev unit : Checked
-  unit = unit_of (unit_view tree) fs
+  unit = unit_of (unit_view tree) d
 
   abbrev p4 : Place → List ℕ → Fault
   p4 place text = record { code = P4; place = place; file = file_of tree.files place; text = text }
 
-  lacks : (lack : Lack) (o : Option Function) → lacking fs ≡ o → Some lack ≡ lack_in o → IsFaultOr r (p4 lack.place lack.signature) → RefusesUnit unbuilt r name unit
-  lacks lack None of e is = absurd (some_lacks lack e)
+  lacks : (lack : Lack) (o : Option Function) → lacking d.functions ≡ o → Some lack ≡ lack_in d.classes o → IsFaultOr r (p4 lack.place lack.signature) → RefusesUnit unbuilt r name unit
+  lacks lack None of e is = absurd (some_lacks d.classes lack e)
   lacks lack (Some g) of e is = λ tokens t u files reads.
-      let at_g : IsFaultOr r (p4 g.place (signature [] g)) = subst (λ (x : Lack). IsFaultOr r (p4 x.place x.signature)) (is_lack_of lack g e) is in
+      let at_g : IsFaultOr r (p4 g.place (signature d.classes g)) = subst (λ (x : Lack). IsFaultOr r (p4 x.place x.signature)) (is_lack_of d.classes lack g e) is in
       by_fault unbuilt r _ files name at_g (inr (inr (inr (inr (inl (t, unit, typed_of unbuilt tokens t unit u files.old.held name reads, g, of, refl, refl, refl, refl))))))
 
-  pub undefined : (lack : Lack) → Some lack ≡ lack_in (lacking fs) → IsFaultOr r (p4 lack.place lack.signature) → RefusesUnit unbuilt r name unit
-  undefined lack e is = lacks lack (lacking fs) refl e is
+  pub undefined : (lack : Lack) → Some lack ≡ lack_in d.classes (lacking d.functions) → IsFaultOr r (p4 lack.place lack.signature) → RefusesUnit unbuilt r name unit
+  undefined lack e is = lacks lack (lacking d.functions) refl e is
 
-  pub mainless : None ≡ lack_in (lacking fs) → (HasMain fs → ⊥) → IsFaultOr r (record { code = P5; place = unit_start; file = name; text = codes "main" }) → RefusesUnit unbuilt r name unit
+  pub mainless : None ≡ lack_in d.classes (lacking d.functions) → (HasMain d.functions → ⊥) → IsFaultOr r (record { code = P5; place = unit_start; file = name; text = codes "main" }) → RefusesUnit unbuilt r name unit
   mainless e without is = λ tokens t u files reads.
-      by_fault unbuilt r _ files name is (inr (inr (inr (inr (inr (t, unit, typed_of unbuilt tokens t unit u files.old.held name reads, lacks_none fs e, without, refl, refl, refl, refl))))))
+      by_fault unbuilt r _ files name is (inr (inr (inr (inr (inr (t, unit, typed_of unbuilt tokens t unit u files.old.held name reads, lacks_none d e, without, refl, refl, refl, refl))))))
 
 -- ---- programs that lack nothing
 
-module _ (unbuilt : Forms) (tokens : Tokens) (fs : List Function) (h : HasProgram unbuilt tokens fs) where
-  abbrev whole : Checked
-  whole = unit_of (unit_view h.tree) fs
+-- a unit without forms of objects has no class
+without_classes : (unbuilt : Forms) (u : t.UnitTree) → unbuilt.objects ≡ true → first_of unbuilt (unit_marks u) ≡ None → NoClasses u.decls
+without_classes unbuilt u o e = ?
 
-  pub is_sound : (held : Option Contents) (name : List ℕ) → Reads held name tokens → IsSound unbuilt held name (record { classes = []; functions = fs })
+module _ (unbuilt : Forms) (tokens : Tokens) (d : Declarations) (h : HasProgram unbuilt tokens d) where
+  abbrev whole : Checked
+  whole = unit_of (unit_view h.tree) d
+
+  pub is_sound : (held : Option Contents) (name : List ℕ) → Reads held name tokens → IsSound unbuilt held name whole.program
   is_sound held name reads =
       record { tree = h.tree; unit = whole; typed = typed_of unbuilt tokens h.tree whole h.unit held name reads; complete = h.complete; program = refl }
 
-  pub is_scalar : IsScalar (record { classes = []; functions = fs })
-  is_scalar =
-      typed_unit_is_scalar (unit_view h.tree) whole h.numbers h.unit.typed (called_are_defined (record { classes = []; functions = fs }) h.complete.called) h.complete.main
+  pub is_scalar : unbuilt.objects ≡ true → IsScalar whole.program
+  is_scalar o =
+      typed_unit_is_scalar (unit_view h.tree) whole h.numbers (without_classes unbuilt (unit_view h.tree) o h.unit.built) h.unit.typed (called_are_defined whole.program h.complete.called) h.complete.main
 
-  pub is_small : IsShallow (record { classes = []; functions = fs }) × NeedsFew (record { classes = []; functions = fs })
+  pub is_small : IsShallow whole.program × NeedsFew whole.program
   is_small = typed_unit_is_shallow h.tree whole (keeps tokens h.tree h.unit.is_tree) h.unit.typed
 
 -- ---- the answer, by what is found in the tokens
 
-module _ (unbuilt : Forms) (tokens : Tokens) (name : List ℕ) where
-  abbrev Found : Result (List CoreFn) Refusal → Type 0
-  Found o = MatchResult o (λ fs. HasProgram unbuilt tokens (map function_view fs)) (λ r. RefusesTokens unbuilt r name tokens)
+-- the program, which in memory is this
+abbrev seen_as : CoreProgram → Program
+seen_as p = program_view p.graph p.functions
 
-  pub content : (files : Change FilesSeen) (o : Result (List CoreFn) Refusal) → Reads files.old.held name tokens → Found o → MatchResult o (λ fs. IsSound unbuilt files.old.held name (program_view [] fs)) (λ r. Refuses unbuilt r files name)
-  content files (Ok fs) reads h = is_sound unbuilt tokens (map function_view fs) h files.old.held name reads
+module _ (unbuilt : Forms) (tokens : Tokens) (name : List ℕ) where
+  abbrev Found : Result CoreProgram Refusal → Type 0
+  Found o = MatchResult o (λ p. HasProgram unbuilt tokens (declarations_of p)) (λ r. RefusesTokens unbuilt r name tokens)
+
+  pub content : (files : Change FilesSeen) (o : Result CoreProgram Refusal) → Reads files.old.held name tokens → Found o → MatchResult o (λ p. IsSound unbuilt files.old.held name (seen_as p)) (λ r. Refuses unbuilt r files name)
+  content files (Ok p) reads h = is_sound unbuilt tokens (declarations_of p) h files.old.held name reads
   content files (Err r) reads h = h files reads
 
-  pub scalar : (o : Result (List CoreFn) Refusal) → Found o → IfOk o (λ fs. IsScalar (program_view [] fs))
-  scalar (Ok fs) h = is_scalar unbuilt tokens (map function_view fs) h
-  scalar (Err r) h = tt
+  pub scalar : (o : Result CoreProgram Refusal) → Found o → unbuilt.objects ≡ true → IfOk o (λ p. IsScalar (seen_as p))
+  scalar (Ok p) h w = is_scalar unbuilt tokens (declarations_of p) h w
+  scalar (Err r) h w = tt
 
-  pub shallow : (o : Result (List CoreFn) Refusal) → Found o → IfOk o (λ fs. IsShallow (program_view [] fs))
-  shallow (Ok fs) h = (is_small unbuilt tokens (map function_view fs) h).0
+  pub shallow : (o : Result CoreProgram Refusal) → Found o → IfOk o (λ p. IsShallow (seen_as p))
+  shallow (Ok p) h = (is_small unbuilt tokens (declarations_of p) h).0
   shallow (Err r) h = tt
 
-  pub few : (o : Result (List CoreFn) Refusal) → Found o → IfOk o (λ fs. FewTemporaries (program_view [] fs))
-  few (Ok fs) h = (is_small unbuilt tokens (map function_view fs) h).1
+  pub few : (o : Result CoreProgram Refusal) → Found o → IfOk o (λ p. FewTemporaries (seen_as p))
+  few (Ok p) h = (is_small unbuilt tokens (declarations_of p) h).1
   few (Err r) h = tt

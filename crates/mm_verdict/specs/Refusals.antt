@@ -9,7 +9,7 @@ use Rattle.mm_syntax.specs.Forms.{first_of, unit_marks}
 use Rattle.mm_syntax.specs.View.{unit_view}
 use Rattle.mm_parse_unit.specs.Units.{IsTreeOf}
 use Rattle.mm_core.specs.Units.{Checked}
-use Rattle.mm_core.specs.Tree.{Function}
+use Rattle.mm_unit_typing.specs.Functions.{Declarations}
 use Rattle.mm_unit_typing.specs.Units.{UnitTypes, unit_of}
 use Rattle.mm_typing_valid.specs.Numbers.{DeclsInRange}
 use Rattle.mm_complete.specs.Complete.{IsComplete}
@@ -64,9 +64,9 @@ abbrev pub RefusesUnit : Forms → Refusal → List ℕ → Checked → Type 0
 RefusesUnit unbuilt r name unit = (tokens : Tokens) (tree : UnitTree) →
     IsUnitOf unbuilt tokens tree unit → RefusesTokens unbuilt r name tokens
 
--- a unit with these tokens has these functions, and is complete
-pub record HasProgram (unbuilt : Forms) (tokens : Tokens) (functions : List Function) : Type 0 where
+-- a unit with these tokens declares this, and is complete
+pub record HasProgram (unbuilt : Forms) (tokens : Tokens) (d : Declarations) : Type 0 where
   pub tree : UnitTree
-  pub unit : IsUnitOf unbuilt tokens tree (unit_of (unit_view tree) functions)
-  pub complete : IsComplete functions
+  pub unit : IsUnitOf unbuilt tokens tree (unit_of (unit_view tree) d)
+  pub complete : IsComplete d.functions
   pub numbers : DeclsInRange (unit_view tree).decls

@@ -42,7 +42,7 @@ file_of files place = get_or files place.file []
 -- for `check`
 abbrev pub unbuilt_in_check : Forms
 unbuilt_in_check = record {
-  objects = true;
+  objects = false;
   virtuals = true;
   opens = true;
   constructs = true;

@@ -10,7 +10,7 @@ pub fn unbuilt_in_check() -> Forms
     ensures { result ≡ verdict.unbuilt_in_check }
 {
     Forms {
-        objects: true,
+        objects: false,
         virtuals: true,
         opens: true,
         constructs: true,

@@ -1,7 +1,7 @@
 // From the name of a unit to its checked program.
 
-ghost use Rattle.std.specs.Prelude.{◌≡◌, [], codes, map, IfOk, MatchResult};
-ghost use Rattle.mm_core.specs.View.{function_view, program_view};
+ghost use Rattle.std.specs.Prelude.{◌≡◌, true, [], codes, IfOk, MatchResult};
+ghost use Rattle.mm_core.specs.View.{program_view};
 ghost use Rattle.mm_syntax.specs.View.{unit_view};
 ghost use Rattle.mm_token.specs.Tokens.{Reads, unit_start};
 ghost use Rattle.mm_token.specs.Causes.{AreKept};
@@ -9,6 +9,7 @@ ghost use Rattle.mm_parse_unit.specs.Units.{IsTreeOf};
 ghost use Rattle.mm_simulate.specs.Simulates.{IsScalar, IsShallow};
 ghost use Rattle.mm_lower.specs.Written.{FewTemporaries};
 ghost use Rattle.mm_unit_typing.specs.Units.{UnitTypes, unit_of};
+ghost use Rattle.mm_check_unit.specs.Program.{declarations_of};
 ghost use Rattle.mm_complete.specs.Complete.{IsComplete};
 ghost use Rattle.mm_syntax.specs.declared.form.Forms as form_set;
 ghost use Rattle.mm_verdict.specs.Verdict.{IsSound, file_of};
@@ -23,16 +24,15 @@ use mm_check_unit::check::check;
 use mm_checks::CheckEnd;
 use mm_complete::entry::has_main;
 use mm_complete::lack::lacking;
-use mm_core::tree::CoreFn;
 use mm_parse_expr::ParseEnd;
 use mm_parse_unit::unit;
+use mm_program::joined::CoreProgram;
 use mm_syntax::decl::Unit;
 use mm_syntax::form::Forms;
 use mm_syntax::walk::walk_any;
 use mm_token::read::get_tokens;
 use mm_token::token::{TokenEnd, Tokens};
 use mm_tree_numbers::read_numbers;
-use sqlite_items::Items;
 use std::alloc::{AllocError, Global};
 
 fn made(
@@ -137,19 +137,19 @@ fn refuse_unbuilt(
     }
 }
 
-// The functions of a unit that is typed.
+// The program of a unit that is typed.
 fn check_tree(
     alloc: Global,
     name: &str,
     tokens: &Tokens,
     tree: &Unit,
-) -> Result<Items<CoreFn>, Refusal>
+) -> Result<CoreProgram, Refusal>
     ensures { MatchResult result
-        (λ fs. UnitTypes (unit_view tree.now) (unit_of (unit_view tree.now) (map function_view fs)))
+        (λ p. UnitTypes (unit_view tree.now) (unit_of (unit_view tree.now) (declarations_of p)))
         (λ r. (unbuilt : form_set.Forms) → RefusesBuilt unbuilt r name.now tokens.now tree.now) }
 {
     match check(alloc, tree) {
-        Ok(functions) => Ok(functions),
+        Ok(program) => Ok(program),
         Err(CheckEnd::Fault(code, place, text)) => {
             Err(fault(alloc, code, place, tokens.files.as_slice(), text.as_str()))
         }
@@ -169,18 +169,19 @@ fn mainless(alloc: Global, name: &str) -> Refusal
     fault_in(alloc, Code::P5, start, name, "main")
 }
 
-// Refuses functions that call what they don't define, or that have no `int main()`.
+// Refuses a program that calls what it doesn't define, or that has no `int main()`.
 fn refuse_incomplete(
     alloc: Global,
     name: &str,
     tree: &Unit,
-    functions: &[CoreFn],
+    program: &CoreProgram,
 ) -> Result<(), Refusal>
-    ensures { MatchResult result (λ _. IsComplete (map function_view functions.now))
+    ensures { MatchResult result (λ _. IsComplete (declarations_of program.now).functions)
         (λ r. (unbuilt : form_set.Forms) → RefusesUnit unbuilt r name.now
-        (unit_of (unit_view tree.now) (map function_view functions.now))) }
+        (unit_of (unit_view tree.now) (declarations_of program.now))) }
 {
-    match lacking(alloc, functions)? {
+    let functions = program.functions.as_slice();
+    match lacking(alloc, &program.graph, functions)? {
         Some(lack) => {
             let files = tree.files.as_slice();
             Err(fault(alloc, Code::P4, lack.place, files, lack.signature.as_str()))
@@ -190,38 +191,40 @@ fn refuse_incomplete(
     }
 }
 
-// The functions of a unit with these tokens.
+// The program of a unit with these tokens.
 fn check_tokens(
     alloc: Global,
     name: &str,
     unbuilt: Forms,
     tokens: &Tokens,
-) -> Result<Items<CoreFn>, Refusal>
-    ensures { MatchResult result (λ fs. HasProgram unbuilt tokens.now (map function_view fs))
+) -> Result<CoreProgram, Refusal>
+    ensures { MatchResult result (λ p. HasProgram unbuilt tokens.now (declarations_of p))
         (λ r. RefusesTokens unbuilt r name.now tokens.now) }
 {
     let tree = parse(alloc, name, tokens)?;
     refuse_unbuilt(alloc, name, unbuilt, tokens, &tree)?;
-    let functions = check_tree(alloc, name, tokens, &tree)?;
-    refuse_incomplete(alloc, name, &tree, functions.as_slice())?;
+    let program = check_tree(alloc, name, tokens, &tree)?;
+    refuse_incomplete(alloc, name, &tree, &program)?;
     read_numbers(&tree);
-    Ok(functions)
+    Ok(program)
 }
 
-/// The checked program of the unit of a name, which can be translated; or why there is none.
-/// Trees of the unbuilt forms are refused by `N0`.
+/// The checked program of the unit of a name, or why there is none. Trees of the unbuilt forms are
+/// refused by `N0`. Where the forms of objects are among them, the program has no classes and can
+/// be translated.
 pub fn sound_unit<F: Files>(
     alloc: Global,
     name: &str,
     unbuilt: Forms,
     files: &mut F,
-) -> Result<Items<CoreFn>, Refusal>
+) -> Result<CoreProgram, Refusal>
     ensures content { MatchResult result
-        (λ fs. IsSound unbuilt (F.seen files.old).held name.now (program_view [] fs))
+        (λ p. IsSound unbuilt (F.seen files.old).held name.now (program_view p.graph p.functions))
         (λ r. Refuses unbuilt r (record { old = F.seen files.old; new = F.seen files.new }) name.now) }
-    ensures scalar { IfOk result (λ fs. IsScalar (program_view [] fs)) }
-    ensures shallow { IfOk result (λ fs. IsShallow (program_view [] fs)) }
-    ensures few { IfOk result (λ fs. FewTemporaries (program_view [] fs)) }
+    ensures scalar { unbuilt.objects ≡ true
+        → IfOk result (λ p. IsScalar (program_view p.graph p.functions)) }
+    ensures shallow { IfOk result (λ p. IsShallow (program_view p.graph p.functions)) }
+    ensures few { IfOk result (λ p. FewTemporaries (program_view p.graph p.functions)) }
     ensures kept { AreKept (F.seen files.old) (F.seen files.new) }
 {
     let tokens = read(alloc, name, files)?;

@@ -1,6 +1,6 @@
-use Rattle.std.proofs.Common.{map, sym, ◌∙◌, subst}
+use Rattle.std.proofs.Common.{sym, ◌∙◌, subst}
 use Rattle.mm_base.specs.declared.code.TheConstants.Code.{P4}
-use Rattle.mm_core.specs.View.{function_view}
+use Rattle.mm_check_unit.specs.Program.{declarations_of}
 use Rattle.mm_complete.specs.Complete.{HasMain}
 use Rattle.mm_verdict.specs.Verdict.{file_of}
 use Rattle.mm_verdict.specs.Refusals.{IsFaultOr}
@@ -12,15 +12,15 @@ returns-in-Some c =
     let lack = c.in-Some.lack in
     let in_files = subst (λ fs. IsFaultOr c.fault.result (record { code = P4; place = lack.place; file = file_of fs lack.place; text = c.as_str.result.now })) c.as_slice-files.ensures c.fault.ensures in
     let is = subst (λ t. IsFaultOr c.fault.result (record { code = P4; place = lack.place; file = file_of c.args.tree.now.files lack.place; text = t })) c.as_str.ensures in_files in
-    λ unbuilt. undefined unbuilt c.fault.result c.args.name.now c.args.tree.now (map function_view c.args.functions.now) lack (sym c.in-Some.is ∙ c.in_ok-lack.ensures) is
+    λ unbuilt. undefined unbuilt c.fault.result c.args.name.now c.args.tree.now (declarations_of c.args.program.now) lack (sym c.in-Some.is ∙ c.in_ok-lack.ensures) is
 
 pub returns-in-None : goal.returns-in-None
 returns-in-None c = record {
-  called = lacks_none (map function_view c.args.functions.now) (sym c.in-None.is ∙ c.in_ok-lack.ensures);
+  called = lacks_none (declarations_of c.args.program.now) (sym c.in-None.is ∙ c.in_ok-lack.ensures);
   main = c.has_main.ensures.0 c.if-has_main.true;
 }
 
 pub returns-in-None-2 : goal.returns-in-None-2
 returns-in-None-2 c =
-    let without : HasMain (map function_view c.args.functions.now) → ⊥ = λ main. not_both_ways c.has_main.result c.if-has_main.false (c.has_main.ensures.1 main) in
-    λ unbuilt. mainless unbuilt c.mainless.result c.args.name.now c.args.tree.now (map function_view c.args.functions.now) (sym c.in-None-2.is ∙ c.in_ok-lack.ensures) without c.mainless.ensures
+    let without : HasMain (declarations_of c.args.program.now).functions → ⊥ = λ main. not_both_ways c.has_main.result c.if-has_main.false (c.has_main.ensures.1 main) in
+    λ unbuilt. mainless unbuilt c.mainless.result c.args.name.now c.args.tree.now (declarations_of c.args.program.now) (sym c.in-None-2.is ∙ c.in_ok-lack.ensures) without c.mainless.ensures
