@@ -1,6 +1,7 @@
 -- How the steps of a unit end.
-use Rattle.std.proofs.Common.{◌≡◌, ℕ, Bool, true, false, List, [], Option, Some, None, refl, sym, ◌∙◌, subst, inl, inr}
-use Rattle.std.specs.Prelude.{IfNone, MatchOption, codes, map, Result, Ok, Err, IfOk, MatchResult}
+use Rattle.std.proofs.Common.{◌≡◌, ℕ, Bool, true, false, List, [], ◌∷◌, ◌++◌, Option, Some, None, refl, sym, ◌∙◌, subst, inl, inr}
+use Rattle.std.specs.List.{flat_map}
+use Rattle.std.specs.Prelude.{if◌then◌else◌, IfNone, MatchOption, codes, map, Result, Ok, Err, IfOk, MatchResult}
 use Rattle.mm_base.specs.Outside.{Contents, FilesSeen}
 use Rattle.mm_base.specs.declared.code.Code.{Code}
 use Rattle.mm_base.specs.declared.code.TheConstants.Code.{N0, P4, P5}
@@ -11,7 +12,7 @@ use Rattle.mm_token.specs.Tokens.{unit_start, Reads, IsRefused}
 use Rattle.mm_token.specs.Causes as causes
 use Rattle.mm_syntax.specs.declared.decl.Unit.{Unit as UnitTree}
 use Rattle.mm_syntax.specs.declared.form.Forms.{Forms}
-use Rattle.mm_syntax.specs.Forms.{first_of, unit_marks}
+use Rattle.mm_syntax.specs.Forms.{Mark, is_among, first_of, function_marks, class_marks, decl_marks, unit_marks}
 use Rattle.mm_syntax.specs.View.{unit_view}
 use Rattle.mm_parse_unit.specs.Units.{IsSyntaxFault}
 use Rattle.mm_parse_unit.proofs.BoundsKept.{keeps}
@@ -27,6 +28,7 @@ use Rattle.mm_syntax.specs.Tree as t
 use Rattle.mm_check_unit.specs.Program.{declarations_of}
 use Rattle.mm_unit_typing.specs.Functions.{Declarations}
 use Rattle.mm_unit_typing.specs.Units.{UnitFaults, unit_of}
+use Rattle.mm_typing_valid.specs.Units.{NoClasses}
 use Rattle.mm_typing_valid.proofs.Called.{typed_unit_is_scalar}
 use Rattle.mm_typing_bounds.specs.Bounded.{NeedsFew}
 use Rattle.mm_typing_bounds.proofs.Units.{typed_unit_is_shallow}
@@ -121,9 +123,28 @@ module _ (unbuilt : Forms) (r : Refusal) (name : List ℕ) (tree : UnitTree) (d 
 
 -- ---- programs that lack nothing
 
--- a unit without forms of objects has no class
-without_classes : (unbuilt : Forms) (u : t.UnitTree) → unbuilt.objects ≡ true → first_of unbuilt (unit_marks u) ≡ None → NoClasses u.decls
-without_classes unbuilt u o e = ?
+-- Where no tree is of a form of objects, none declares a class: the first of its marks would be one.
+module _ (unbuilt : Forms) (objects : unbuilt.objects ≡ true) where
+  not_first : (b : Bool) (place : Place) (rest : Option Place) → b ≡ true → (if b then Some place else rest) ≡ None → ⊥
+  not_first true place rest is none = let x : ⊥ = cc in x
+  not_first false place rest is none = let x : ⊥ = cc in x
+
+  behind_first : (b : Bool) (place : Place) (rest : Option Place) → (if b then Some place else rest) ≡ None → rest ≡ None
+  behind_first true place rest none = absurd (let x : ⊥ = cc in x)
+  behind_first false place rest none = none
+
+  no_class : (c : t.Class) (rest : List Mark) → first_of unbuilt (class_marks c ++ rest) ≡ None → ⊥
+  no_class (t.class_declaration p key name) rest none = not_first unbuilt.objects p _ objects none
+  no_class (t.class_definition p key name bases items text) rest none = not_first unbuilt.objects p _ objects none
+
+  later_marks : (xs ys : List Mark) → first_of unbuilt (xs ++ ys) ≡ None → first_of unbuilt ys ≡ None
+  later_marks [] ys none = none
+  later_marks (x ∷ xs) ys none = later_marks xs ys (behind_first (is_among unbuilt x.form) x.place (first_of unbuilt (xs ++ ys)) none)
+
+  no_classes : (ds : List t.Decl) → first_of unbuilt (flat_map decl_marks ds) ≡ None → NoClasses ds
+  no_classes [] none = tt
+  no_classes (t.function_decl p x ∷ ds) none = (tt, no_classes ds (later_marks (function_marks x) (flat_map decl_marks ds) none))
+  no_classes (t.class_decl p x ∷ ds) none = absurd (no_class x (flat_map decl_marks ds) none)
 
 module _ (unbuilt : Forms) (tokens : Tokens) (d : Declarations) (h : HasProgram unbuilt tokens d) where
   abbrev whole : Checked
@@ -135,7 +156,7 @@ module _ (unbuilt : Forms) (tokens : Tokens) (d : Declarations) (h : HasProgram 
 
   pub is_scalar : unbuilt.objects ≡ true → IsScalar whole.program
   is_scalar o =
-      typed_unit_is_scalar (unit_view h.tree) whole h.numbers (without_classes unbuilt (unit_view h.tree) o h.unit.built) h.unit.typed (called_are_defined whole.program h.complete.called) h.complete.main
+      typed_unit_is_scalar (unit_view h.tree) whole (no_classes unbuilt o (unit_view h.tree).decls h.unit.built) h.numbers h.unit.typed (called_are_defined whole.program h.complete.called) h.complete.main
 
   pub is_small : IsShallow whole.program × NeedsFew whole.program
   is_small = typed_unit_is_shallow h.tree whole (keeps tokens h.tree h.unit.is_tree) h.unit.typed
