@@ -10,9 +10,7 @@ use Rattle.mm_scopes.specs.declared.head.Var.{Var}
 use Rattle.mm_scopes.specs.Environment.{Environment}
 use Rattle.mm_unit_typing.specs.Scopes.{inside}
 use Rattle.mm_unit_typing.specs.Types as types
-use Rattle.mm_unit_typing.specs.Made.{Made, made, zero_of}
-use Rattle.mm_check_stmt.specs.declared.variables.Begin.{Begin}
-use Rattle.mm_check_stmt.specs.declared.variables.Begin.TheVariants as begin
+use Rattle.mm_unit_typing.specs.Made.{Made, made}
 use Rattle.mm_check_stmt.specs.declared.types.Specified.{Specified}
 use Rattle.mm_check_stmt.specs.declared.types.Specified.TheVariants as words
 
@@ -46,8 +44,3 @@ put front check = check >>= λ x. Ok (made (front ++ x.tree ∷ []) x.locals)
 abbrev pub specified_view : Specified → types.Specified
 specified_view (words.Scalar t) = types.scalar t
 specified_view (words.Class c) = types.of_class c
-
--- the statement by which a local begins
-abbrev pub begin_view : Begin → k.Stmt
-begin_view (begin.Object n) = k.make n
-begin_view (begin.Zero n t) = k.run (k.set_local n (zero_of t))

@@ -2,7 +2,6 @@
 #![tactic(auto)]
 
 pub mod declare;
-pub mod parts;
 pub mod stmt;
 pub mod types;
 pub mod variables;
