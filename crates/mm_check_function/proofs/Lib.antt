@@ -1,3 +1,0 @@
-pub mod Params
-pub mod Finding
-pub mod Table

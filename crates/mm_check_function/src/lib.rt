@@ -1,6 +1,8 @@
 //! Functions checked: heads, and bodies behind them.
 #![tactic(auto)]
 
+pub mod body;
+pub mod declared;
 pub mod function;
 pub mod head;
 pub mod known;

@@ -1,0 +1,51 @@
+-- The parts of the check of a class, as the code takes them. Own.
+use Rattle.std.specs.Prelude.{◌≡◌, ℕ, Bool, List, [], ◌∷◌, ◌++◌, map, length, AllPairs, Ok}
+use Rattle.std.specs.List.{list_any}
+use Rattle.mm_classes.specs.Adding.{AreKnown}
+use Rattle.mm_classes.specs.Classes.{Class, AreApart, AreTyped}
+use Rattle.mm_classes.specs.Lists.{Distinct}
+use Rattle.mm_classes.specs.declared.class.Base.{Base}
+use Rattle.mm_classes.specs.declared.class.Member.{Member}
+use Rattle.mm_classes.specs.declared.class.Ty.{Ty}
+use Rattle.mm_core.specs.Heads.{same_types}
+use Rattle.mm_scopes.specs.declared.head.FnHead.{FnHead}
+use Rattle.mm_scopes.specs.Names.{named}
+use Rattle.mm_syntax.specs.declared.name.Name.{Name}
+use Rattle.mm_checks.specs.Checks.{Checked, ◌>>=◌, demand}
+use Rattle.mm_unit_typing.specs.Functions.{Declarations}
+use Rattle.mm_unit_typing.specs.Classes.{is_new_class, is_within_limits, past_limit, completed}
+use Rattle.mm_unit_typing.specs.JudgeClasses.{judge_own_class}
+
+-- ---- lists
+
+-- what is checked, behind others
+abbrev pub behind : {X : Type 0} → List X → Checked X → Checked (List X)
+behind front x = x >>= λ v. Ok (front ++ v ∷ [])
+
+-- the bases of a class: each complete, and each another class
+abbrev pub AreBases : List Class → List Base → Type 0
+AreBases g bs = AreKnown g bs × Distinct (map (λ (b : Base). b.class) bs)
+
+-- its members: those of one name are overloads, and their types name the classes that there are
+abbrev pub AreMembers : List Class → List Member → Type 0
+AreMembers g ms = AllPairs AreApart ms × AreTyped (length g) ms
+
+-- a function of the name has these types of parameters
+abbrev pub has_overload : List FnHead → List ℕ → List Ty → Bool
+has_overload fs name params = list_any (λ (h : FnHead). same_types h.params params) (named name fs)
+
+-- ---- the class itself
+
+-- the class complete, where it is within the limits
+abbrev pub limited : Declarations → ℕ → Name → List Base → List Member → List ℕ
+    → Checked Declarations
+limited d c name bs ms text = do
+  u ← demand (is_within_limits d.classes c bs ms) (past_limit name)
+  Ok (completed d c name bs ms text)
+
+-- the class itself, and it complete
+abbrev pub judge_complete : Declarations → ℕ → Name → List Base → List Member → List ℕ
+    → Checked Declarations
+judge_complete d c name bs ms text = do
+  u ← judge_own_class (is_new_class d c name) (is_within_limits d.classes c bs ms) name
+  Ok (completed d c name bs ms text)
