@@ -3,7 +3,7 @@
 ghost use Rattle.mm_typing_valid.specs.Expressions.{TypedIsValid, TypedAsIsValid};
 ghost use Rattle.mm_typing_valid.specs.Called.{TypedUnitIsScalar};
 ghost use Rattle.mm_typing_valid.specs.Units.{TypedUnitIsValid};
-ghost use Rattle.mm_typing_valid.specs.Statements.{TypedStmtIsValid, TypedStmtExtends};
+ghost use Rattle.mm_typing_valid.specs.Statements.{TypedStmtDeclares, TypedStmtExtends, TypedStmtIsValid};
 
 /// The checked tree of a typed expression is valid, and of its type.
 pub fn expressions()
@@ -12,10 +12,11 @@ pub fn expressions()
 {}
 
 /// What a typed statement becomes is valid in its function, and it numbers its variables behind
-/// those before it.
+/// those before it, each of a type that variables may have.
 pub fn statements()
     ensures valid { TypedStmtIsValid }
     ensures extends { TypedStmtExtends }
+    ensures declares { TypedStmtDeclares }
 {}
 
 /// The program of a typed unit is valid.
