@@ -1,15 +1,15 @@
 -- What statements are typed as is valid.
-use Rattle.std.proofs.Common.{◌≡◌, ◌≢◌, ℕ, ◌≤◌, List, [], ◌∷◌, ◌++◌, length, refl, sym, subst, ◌∙◌, inl, inr, arith}
+use Rattle.std.proofs.Common.{◌≡◌, ℕ, ◌≤◌, List, [], ◌∷◌, ◌++◌, length, refl, sym, subst, ◌∙◌, inl, inr, arith}
 use Rattle.std.specs.Prelude.{Bool, true, false, IsTrue, if◌then◌else◌, Option, Some, None}
 use Rattle.mm_classes.specs.declared.class.Ty.{Ty}
 use Rattle.mm_classes.specs.declared.class.Ty.TheVariants as ty
 use Rattle.mm_classes.specs.Lists.{Has, first, later}
 use Rattle.mm_classes.specs.Classes.{IsComplete, IsTyped}
 use Rattle.mm_classes.proofs.Answering.{complete_below}
-use Rattle.mm_core.specs.Heads.{is_reference, type_at}
+use Rattle.mm_core.specs.Heads.{is_reference}
 use Rattle.mm_core.specs.Tree as k
 use Rattle.mm_core.specs.View.{stmts_of}
-use Rattle.mm_core.specs.Valid.{Around, is_arithmetic, type_of, IsValid, Suits, IsTest, sets, IsValidStmt, AreValidStmts, is_step}
+use Rattle.mm_core.specs.Valid.{Around, type_of, IsValid, Suits, IsTest, sets, IsValidStmt, AreValidStmts, is_step}
 use Rattle.mm_core.specs.ValidProgram.{IsVariable}
 use Rattle.mm_scopes.specs.declared.head.Var.{Var}
 use Rattle.mm_scopes.specs.Environment.{Environment}

@@ -2,7 +2,7 @@
 
 ghost use Rattle.mm_typing_valid.specs.Expressions.{TypedIsValid, TypedAsIsValid};
 ghost use Rattle.mm_typing_valid.specs.Called.{TypedUnitIsScalar};
-ghost use Rattle.mm_typing_valid.specs.Units.{TypedUnitIsValid};
+ghost use Rattle.mm_typing_valid.specs.Units.{ScalarUnitIsValid};
 ghost use Rattle.mm_typing_valid.specs.Statements.{TypedStmtDeclares, TypedStmtExtends, TypedStmtIsValid};
 
 /// The checked tree of a typed expression is valid, and of its type.
@@ -19,12 +19,13 @@ pub fn statements()
     ensures declares { TypedStmtDeclares }
 {}
 
-/// The program of a typed unit is valid.
+/// The program of a typed unit that declares no class is valid.
 pub fn units()
-    ensures { TypedUnitIsValid }
+    ensures { ScalarUnitIsValid }
 {}
 
-/// A typed unit that defines `main` and all functions that are called is a whole program.
+/// A typed unit that declares no class, and defines `main` and all functions that are called, is a
+/// whole program.
 pub fn programs()
     ensures { TypedUnitIsScalar }
 {}
