@@ -71,8 +71,8 @@ abbrev pub CalledAreDefined : Program → Type 0
 CalledAreDefined p = (f : Function) (b : Stmt) → Has p.functions f → f.body ≡ Some b
     → StmtCallsOnly (IsDefinedAt p) b
 
--- The program of a typed unit that declares no class, and defines `main` and all functions that are
--- called, is a whole program, without classes.
+-- The program of a typed unit that declares no class, and defines `main` and all functions that
+-- are called, is a whole program, without classes.
 abbrev pub TypedUnitIsScalar : Type 0
 TypedUnitIsScalar = (u : UnitTree) (c : Checked) → NoClasses u.decls → DeclsInRange u.decls
     → UnitTypes u c → CalledAreDefined c.program
