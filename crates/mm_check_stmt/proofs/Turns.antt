@@ -9,12 +9,12 @@ use Rattle.mm_core.specs.View.{stmts_of}
 use Rattle.mm_syntax.specs.Tree as t
 use Rattle.mm_checks.specs.declared.CheckEnd.{CheckEnd}
 use Rattle.mm_checks.specs.declared.CheckEnd.TheVariants as ends
-use Rattle.mm_checks.specs.Checks.{Fault, Checked, ◌>>=◌, at, Fails}
+use Rattle.mm_checks.specs.Checks.{Fault, at, Fails}
 use Rattle.mm_scopes.specs.Environment.{Environment}
 use Rattle.mm_typing.specs.Judge.{judge_as}
 use Rattle.mm_unit_typing.specs.declared.here.Here.{Here}
 use Rattle.mm_unit_typing.specs.Scopes.{inside, turn_within}
-use Rattle.mm_unit_typing.specs.Made.{Made, made}
+use Rattle.mm_unit_typing.specs.Made.{made}
 use Rattle.mm_unit_typing.specs.Judge.{judge_stmt}
 use Rattle.mm_check_stmt.specs.Results.{outside}
 

@@ -1,10 +1,10 @@
-use Rattle.std.proofs.Common.{◌≡◌, sym, ◌∙◌, ap, rules}
+use Rattle.std.proofs.Common.{rules}
 use Rattle.std.proofs.lemmas.Result.{err_from_is_err_and}
 use Rattle.mm_core.specs.View.{expr_view as core_view}
 use Rattle.mm_core.proofs.Views.{core_rules}
 use Rattle.mm_syntax.specs.View.{expr_view, stmt_view}
 use Rattle.mm_check_stmt.specs.Results.{steps_view}
-use Rattle.mm_check_stmt.proofs.Stmts.{stmts_start, stmts_next, stmts_end, stmts_fail_as, stmts_item}
+use Rattle.mm_check_stmt.proofs.Stmts.{stmts_start, stmts_next, stmts_end, stmts_fail_as}
 use Rattle.mm_check_stmt.proofs.Turns.{do_is, do_fails}
 use Rattle.mm_check_stmt.proofs.stmt.+stmt.Goals as goal
 
