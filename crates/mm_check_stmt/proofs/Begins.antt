@@ -1,6 +1,6 @@
 -- What the loop over declarators keeps.
-use Rattle.std.proofs.Common.{◌≡◌, ℕ, suc, ◌+◌, ◌<◌, ◌≤◌, List, [], ◌∷◌, ◌++◌, length, get_or, drop, map, refl, sym, ap, ap₂, ◌∙◌, arith, append_assoc, append-nil}
-use Rattle.std.specs.Prelude.{Result, Ok, Err}
+use Rattle.std.proofs.Common.{◌≡◌, ℕ, ◌+◌, ◌<◌, ◌≤◌, List, [], ◌∷◌, ◌++◌, length, get_or, drop, map, refl, sym, ap, ◌∙◌, append_assoc, append-nil}
+use Rattle.std.specs.Prelude.{Ok, Err}
 use Rattle.std.proofs.lemmas.List.{length-append, drop_more, drop_all}
 use Rattle.mm_classes.specs.declared.class.Ty.{Ty}
 use Rattle.mm_core.specs.Tree as k
@@ -9,13 +9,13 @@ use Rattle.mm_syntax.specs.declared.stmt.Declarator.{Declarator}
 use Rattle.mm_syntax.specs.View.{declarator_view, initializer_view}
 use Rattle.mm_checks.specs.declared.CheckEnd.{CheckEnd}
 use Rattle.mm_checks.specs.declared.CheckEnd.TheVariants as ends
-use Rattle.mm_checks.specs.Checks.{Fault, Checked, ◌>>=◌, at, Fails}
+use Rattle.mm_checks.specs.Checks.{Fault, Checked, at, Fails}
 use Rattle.mm_scopes.specs.declared.head.Var.{Var}
 use Rattle.mm_scopes.specs.Environment.{Environment}
 use Rattle.mm_unit_typing.specs.declared.here.Here.{Here}
 use Rattle.mm_unit_typing.specs.Types.{Specified, variable_type}
 use Rattle.mm_unit_typing.specs.Scopes.{inside, variable, variables_from}
-use Rattle.mm_unit_typing.specs.Made.{Made, made}
+use Rattle.mm_unit_typing.specs.Made.{made}
 use Rattle.mm_unit_typing.specs.Judge.{judge_begin, judge_begins}
 use Rattle.mm_check_stmt.specs.Results.{added, outside}
 use Rattle.mm_check_stmt.proofs.Stmts.{after, after-none, after-more}

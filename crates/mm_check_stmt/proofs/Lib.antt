@@ -1,3 +1,4 @@
 pub mod Sizes
 pub mod Begins
 pub mod Stmts
+pub mod Turns

@@ -25,7 +25,8 @@ abbrev pub steps_view : List CoreStmt → List k.Stmt
 steps_view ss = map stmt_view ss
 
 -- what the check makes, seen by view, with the locals that it leaves, unless memory ran out
-abbrev pub Makes : {X Y : Type 0} → (X → Y) → List Ty → Result X CheckEnd → Checked (Made Y) → Type 0
+abbrev pub Makes : {X Y : Type 0} → (X → Y) → List Ty → Result X CheckEnd → Checked (Made Y)
+    → Type 0
 Makes view locals (Ok x) check = check ≡ Ok (made (view x) locals)
 Makes view locals (Err e) check = Fails e check
 

@@ -43,11 +43,7 @@ pub fn first_text<'a>(mark: &Option<DeclaratorMark>, text: &'a str) -> &'a str
     }
 }
 
-fn refuse_kind(
-    alloc: Global,
-    mark: &Option<DeclaratorMark>,
-    name: &Name,
-) -> Result<Ty, CheckEnd>
+fn refuse_kind(alloc: Global, mark: &Option<DeclaratorMark>, name: &Name) -> Result<Ty, CheckEnd>
     ensures { Gives (λ t. t) result (wanted None (spec.wrong_kind mark.now name.now)) }
 {
     let text = Text::from_str(alloc, first_text(mark, name.text.as_str()))?;
@@ -81,12 +77,20 @@ pub fn need_stand(
     mark: &Option<DeclaratorMark>,
     name: &Name,
 ) -> Result<(), CheckEnd>
-    ensures { Gives (λ u. u) result (judges.may_stand env.now.classes outer env.now.vars type_name.now (specified_view words.now) mark.now name.now) }
+    ensures { Gives (λ u. u) result
+        (judges.may_stand env.now.classes outer env.now.vars type_name.now
+        (specified_view words.now) mark.now name.now) }
 {
     let text = name.text.as_str();
     need(alloc, env.is_new(outer, text), Code::S2, name.place, text)?;
     let whole = is_whole(env, mark, words);
-    need(alloc, whole, Code::S3, type_name.place, type_name.first_text())
+    need(
+        alloc,
+        whole,
+        Code::S3,
+        type_name.place,
+        type_name.first_text(),
+    )
 }
 
 // Whether a name is not for programs.

@@ -1,6 +1,7 @@
 //! Statements without statements inside them, and the parts of the others.
 
-ghost use Rattle.std.specs.Prelude.{◌≡◌, ◌+◌, ◌++◌, [], ◌∷◌, List, ℕ, length, map, codes, not, true, if◌then◌else◌, Option, Some, None, Ok, OnOk};
+ghost use Rattle.std.specs.Prelude.{◌≡◌, ◌+◌, ◌++◌, [], ◌∷◌, List, ℕ, length, map, codes, not};
+ghost use Rattle.std.specs.Prelude.{true, if◌then◌else◌, Option, Some, None, Ok, OnOk};
 ghost use Rattle.mm_core.specs.Tree as k;
 ghost use Rattle.mm_core.specs.View.{expr_view, stmt_view};
 ghost use Rattle.mm_syntax.specs.View as t;
@@ -89,7 +90,8 @@ pub fn put_nodes(
     is_block: bool,
     more: Items<CoreStmt>,
 ) -> Result<(), AllocError>
-    ensures { OnOk result (steps_view steps.new ≡ steps_view steps.old ++ (if is_block then made.block_of (steps_view more) ∷ [] else steps_view more)) }
+    ensures { OnOk result (steps_view steps.new ≡ steps_view steps.old ++
+        (if is_block then made.block_of (steps_view more) ∷ [] else steps_view more)) }
 {
     if is_block {
         steps.push(CoreStmt::Block(more))
@@ -103,7 +105,8 @@ pub fn put_nodes(
 /// An expression.
 #[tactic(auto, using(mm_core::proofs::Views::core_rules), unfolding(mm_unit_typing::specs::Judge::judge_step))]
 pub fn check_run(alloc: Global, env: &Env, e: &Expr) -> Result<CoreStmt, CheckEnd>
-    ensures { Gives stmt_view result (judges.judge_step (outside env.now) env.now.vars (Some (t.expr_view e.now))) }
+    ensures { Gives stmt_view result
+        (judges.judge_step (outside env.now) env.now.vars (Some (t.expr_view e.now))) }
 {
     let x = check_expr(alloc, env, e)?;
     Ok(CoreStmt::Do(x.core))
@@ -132,7 +135,8 @@ pub fn check_return(
     place: Place,
     e: &Expr,
 ) -> Result<CoreStmt, CheckEnd>
-    ensures { Gives stmt_view result (judges.judge_return (outside env.now) here.now env.now.vars place (t.expr_view e.now)) }
+    ensures { Gives stmt_view result
+        (judges.judge_return (outside env.now) here.now env.now.vars place (t.expr_view e.now)) }
 {
     let x = check_expr(alloc, env, e)?;
     need(alloc, !is_void(&here.result), Code::S14, place, "return")?;
@@ -151,8 +155,11 @@ pub fn check_start(
     here: &Here,
     start: &ForStart,
 ) -> Result<Items<CoreStmt>, CheckEnd>
-    ensures is { Makes steps_view locals.new result (judges.judge_start (outside env.old) here.now env.old.vars locals.old (t.start_view start.now)) }
-    ensures vars { OnOk result (env.new ≡ inside env.old (scopes.behind_start env.old.classes env.old.vars locals.old (t.start_view start.now))) }
+    ensures is { Makes steps_view locals.new result
+        (judges.judge_start (outside env.old) here.now env.old.vars locals.old
+        (t.start_view start.now)) }
+    ensures vars { OnOk result (env.new ≡ inside env.old
+        (scopes.behind_start env.old.classes env.old.vars locals.old (t.start_view start.now))) }
 {
     match start {
         ForStart::Nothing => one(alloc, CoreStmt::Block(Items::new(alloc))),
@@ -164,7 +171,8 @@ pub fn check_start(
 /// The condition, which is true where none stands.
 #[tactic(auto, using(mm_core::proofs::Views::core_rules), unfolding(mm_unit_typing::specs::Judge::judge_test))]
 pub fn check_test(alloc: Global, env: &Env, test: &Option<Expr>) -> Result<CoreExpr, CheckEnd>
-    ensures { Gives expr_view result (judges.judge_test (outside env.now) env.now.vars (t.maybe_view test.now)) }
+    ensures { Gives expr_view result
+        (judges.judge_test (outside env.now) env.now.vars (t.maybe_view test.now)) }
 {
     match test {
         None => Ok(CoreExpr::Bool(true)),
@@ -186,7 +194,8 @@ pub fn check_step(
     env: &Env,
     step: &Option<Expr>,
 ) -> Result<Boxed<CoreStmt>, CheckEnd>
-    ensures { Gives stmt_view result (judges.judge_step (outside env.now) env.now.vars (t.maybe_view step.now)) }
+    ensures { Gives stmt_view result
+        (judges.judge_step (outside env.now) env.now.vars (t.maybe_view step.now)) }
 {
     match step {
         None => boxed(alloc, CoreStmt::Block(Items::new(alloc))),

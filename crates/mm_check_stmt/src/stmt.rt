@@ -1,4 +1,5 @@
-//! Statements. The recursion is as deep as statements stand in one another; a list of statements is a loop.
+//! Statements. The recursion is as deep as statements stand in one another; a list of statements
+//! is a loop.
 
 ghost use Rattle.std.specs.Prelude.{◌≡◌, ◌++◌, [], length, OnOk};
 ghost use Rattle.mm_core.specs.View.{stmt_view};
@@ -36,8 +37,10 @@ pub fn check_stmt(
     here: &Here,
     s: &Stmt,
 ) -> Result<Items<CoreStmt>, CheckEnd>
-    ensures is { Makes steps_view locals.new result (judge_stmt (outside env.old) here.now env.old.vars locals.old (t.stmt_view s.now)) }
-    ensures vars { OnOk result (env.new ≡ inside env.old (scopes.behind env.old.classes env.old.vars locals.old (t.stmt_view s.now))) }
+    ensures is { Makes steps_view locals.new result
+        (judge_stmt (outside env.old) here.now env.old.vars locals.old (t.stmt_view s.now)) }
+    ensures vars { OnOk result (env.new ≡ inside env.old
+        (scopes.behind env.old.classes env.old.vars locals.old (t.stmt_view s.now))) }
 {
     match &s.kind {
         StmtKind::Block(ss) => check_block(alloc, env, locals, here, ss.as_slice()),
@@ -94,7 +97,9 @@ fn check_block(
     here: &Here,
     ss: &[Stmt],
 ) -> Result<Items<CoreStmt>, CheckEnd>
-    ensures is { Makes steps_view locals.new result (judge_stmts (outside env.old) (scopes.within here.now env.old.vars) env.old.vars locals.old (t.stmts_view ss.now)) }
+    ensures is { Makes steps_view locals.new result
+        (judge_stmts (outside env.old) (scopes.within here.now env.old.vars) env.old.vars locals.old
+        (t.stmts_view ss.now)) }
     ensures vars { OnOk result (env.new ≡ env.old) }
 {
     let outer = env.enter();
@@ -115,7 +120,9 @@ fn check_if(
     e: &Expr,
     a: &Stmt,
 ) -> Result<Items<CoreStmt>, CheckEnd>
-    ensures is { Makes steps_view locals.new result (judge_stmt (outside env.old) here.now env.old.vars locals.old (tree.if_then place (t.expr_view e.now) (t.stmt_view a.now))) }
+    ensures is { Makes steps_view locals.new result
+        (judge_stmt (outside env.old) here.now env.old.vars locals.old
+        (tree.if_then place (t.expr_view e.now) (t.stmt_view a.now))) }
     ensures vars { OnOk result (env.new ≡ env.old) }
 {
     let test = check_as(alloc, env, Ty::Bool, e)?;
@@ -136,7 +143,9 @@ fn check_choice(
     a: &Stmt,
     b: &Stmt,
 ) -> Result<Items<CoreStmt>, CheckEnd>
-    ensures is { Makes steps_view locals.new result (judge_stmt (outside env.old) here.now env.old.vars locals.old (tree.if_else place (t.expr_view e.now) (t.stmt_view a.now) (t.stmt_view b.now))) }
+    ensures is { Makes steps_view locals.new result
+        (judge_stmt (outside env.old) here.now env.old.vars locals.old
+        (tree.if_else place (t.expr_view e.now) (t.stmt_view a.now) (t.stmt_view b.now))) }
     ensures vars { OnOk result (env.new ≡ env.old) }
 {
     let test = check_as(alloc, env, Ty::Bool, e)?;
@@ -157,7 +166,9 @@ fn check_while(
     e: &Expr,
     a: &Stmt,
 ) -> Result<Items<CoreStmt>, CheckEnd>
-    ensures is { Makes steps_view locals.new result (judge_stmt (outside env.old) here.now env.old.vars locals.old (tree.while_do place (t.expr_view e.now) (t.stmt_view a.now))) }
+    ensures is { Makes steps_view locals.new result
+        (judge_stmt (outside env.old) here.now env.old.vars locals.old
+        (tree.while_do place (t.expr_view e.now) (t.stmt_view a.now))) }
     ensures vars { OnOk result (env.new ≡ env.old) }
 {
     let test = check_as(alloc, env, Ty::Bool, e)?;
@@ -177,7 +188,9 @@ fn check_do(
     a: &Stmt,
     e: &Expr,
 ) -> Result<Items<CoreStmt>, CheckEnd>
-    ensures is { Makes steps_view locals.new result (judge_stmt (outside env.old) here.now env.old.vars locals.old (tree.do_while place (t.stmt_view a.now) (t.expr_view e.now))) }
+    ensures is { Makes steps_view locals.new result
+        (judge_stmt (outside env.old) here.now env.old.vars locals.old
+        (tree.do_while place (t.stmt_view a.now) (t.expr_view e.now))) }
     ensures vars { OnOk result (env.new ≡ env.old) }
 {
     let inner = turn_within(here, env);
@@ -199,8 +212,10 @@ fn push_loop(
     a: &Stmt,
     steps: &mut Items<CoreStmt>,
 ) -> Result<(), CheckEnd>
-    ensures is { Makes (λ u. steps_view steps.new) locals.new result (put (steps_view steps.old) (judge_loop (outside env.old) env.old.vars (t.maybe_view test.now) (t.maybe_view step.now)
-        (judge_stmt (outside env.old) (scopes.turn_within here.now env.old.vars) env.old.vars locals.old (t.stmt_view a.now)))) }
+    ensures is { Makes (λ u. steps_view steps.new) locals.new result (put (steps_view steps.old)
+        (judge_loop (outside env.old) env.old.vars (t.maybe_view test.now) (t.maybe_view step.now)
+        (judge_stmt (outside env.old) (scopes.turn_within here.now env.old.vars) env.old.vars
+        locals.old (t.stmt_view a.now)))) }
     ensures vars { OnOk result (env.new ≡ env.old) }
 {
     let holds = check_test(alloc, env, test)?;
@@ -224,7 +239,10 @@ fn check_for(
     step: &Option<Expr>,
     a: &Stmt,
 ) -> Result<Items<CoreStmt>, CheckEnd>
-    ensures is { Makes steps_view locals.new result (judge_stmt (outside env.old) here.now env.old.vars locals.old (tree.for_do place (t.start_view start.now) (t.maybe_view test.now) (t.maybe_view step.now) (t.stmt_view a.now))) }
+    ensures is { Makes steps_view locals.new result
+        (judge_stmt (outside env.old) here.now env.old.vars locals.old
+        (tree.for_do place (t.start_view start.now) (t.maybe_view test.now) (t.maybe_view step.now)
+        (t.stmt_view a.now))) }
     ensures vars { OnOk result (env.new ≡ env.old) }
 {
     let outer = env.enter();
@@ -244,7 +262,8 @@ fn check_inner(
     here: &Here,
     s: &Stmt,
 ) -> Result<Items<CoreStmt>, CheckEnd>
-    ensures is { Makes steps_view locals.new result (judge_stmt (outside env.old) here.now env.old.vars locals.old (t.stmt_view s.now)) }
+    ensures is { Makes steps_view locals.new result
+        (judge_stmt (outside env.old) here.now env.old.vars locals.old (t.stmt_view s.now)) }
     ensures vars { OnOk result (env.new ≡ env.old) }
 {
     let outer = env.enter();
@@ -262,7 +281,8 @@ fn check_stmts(
     here: &Here,
     ss: &[Stmt],
 ) -> Result<Items<CoreStmt>, CheckEnd>
-    ensures is { Makes steps_view locals.new result (judge_stmts (outside env.old) here.now env.old.vars locals.old (t.stmts_view ss.now)) }
+    ensures is { Makes steps_view locals.new result
+        (judge_stmts (outside env.old) here.now env.old.vars locals.old (t.stmts_view ss.now)) }
     ensures vars { OnOk result (Keeps env.old env.new) }
 {
     let mut steps = Items::new(alloc);

@@ -61,7 +61,8 @@ fn refuse_type(alloc: Global, name: &TypeName) -> Result<Specified, CheckEnd>
 /// What the words of a type name; a class that is named is declared.
 pub fn check_type(alloc: Global, env: &Env, name: &TypeName) -> Result<Specified, CheckEnd>
     ensures is { Gives specified_view result (judges.judge_type env.now.classes name.now) }
-    ensures found { IfOk result (λ s. spec.specified env.now.classes name.now.kind ≡ Some (specified_view s)) }
+    ensures found { IfOk result (λ s. spec.specified env.now.classes name.now.kind ≡ Some
+        (specified_view s)) }
 {
     match find_type(env, &name.kind) {
         Some(words) => Ok(words),

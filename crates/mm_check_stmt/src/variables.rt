@@ -10,7 +10,8 @@ ghost use Rattle.mm_unit_typing.specs.Types as spec;
 ghost use Rattle.mm_unit_typing.specs.Made.{begun, zero_set};
 ghost use Rattle.mm_unit_typing.specs.Scopes.{inside, variable, variables_from, declared_by};
 ghost use Rattle.mm_unit_typing.specs.Judge as judges;
-ghost use Rattle.mm_check_stmt.specs.Results.{Makes, added, begin_view, outside, specified_view, steps_view};
+ghost use Rattle.mm_check_stmt.specs.Results.{Makes, added, begin_view, outside, specified_view};
+ghost use Rattle.mm_check_stmt.specs.Results.{steps_view};
 
 use crate::declare::{first_place, need_stand, need_yours, want_type, zero_value};
 use crate::types::{Specified, check_type, kept_type, value_type, variable_type};
@@ -74,7 +75,8 @@ fn want_zero(
     mark: &Option<DeclaratorMark>,
     name: &Name,
 ) -> Result<Begin, CheckEnd>
-    ensures { Gives begin_view result (wanted (zero_set local ty) (spec.wrong_kind mark.now name.now)) }
+    ensures { Gives begin_view result
+        (wanted (zero_set local ty) (spec.wrong_kind mark.now name.now)) }
 {
     let ty = want_type(alloc, ty, mark, name)?;
     Ok(Begin::Zero(local, ty))
@@ -88,7 +90,9 @@ fn want_begin(
     mark: &Option<DeclaratorMark>,
     name: &Name,
 ) -> Result<Begin, CheckEnd>
-    ensures { Gives begin_view result (wanted (begun local mark.now (specified_view words.now)) (spec.wrong_kind mark.now name.now)) }
+    ensures { Gives begin_view result
+        (wanted (begun local mark.now (specified_view words.now))
+        (spec.wrong_kind mark.now name.now)) }
 {
     match (mark, words) {
         (None, Specified::Class(_)) => Ok(Begin::Object(local)),
@@ -120,7 +124,9 @@ fn begin_empty(
     local: u32,
     x: &Declarator,
 ) -> Result<CoreStmt, CheckEnd>
-    ensures { Gives stmt_view result (judges.judge_begin (outside env.now) here.now type_name.now (specified_view words.now) env.now.vars local x.now.mark x.now.name no_initial) }
+    ensures { Gives stmt_view result
+        (judges.judge_begin (outside env.now) here.now type_name.now
+        (specified_view words.now) env.now.vars local x.now.mark x.now.name no_initial) }
 {
     need_stand(alloc, env, here.outer, type_name, words, &x.mark, &x.name)?;
     let begin = want_begin(alloc, local, words, &x.mark, &x.name)?;
@@ -140,7 +146,10 @@ fn begin_value(
     x: &Declarator,
     e: &Expr,
 ) -> Result<CoreStmt, CheckEnd>
-    ensures { Gives stmt_view result (judges.judge_begin (outside env.now) here.now type_name.now (specified_view words.now) env.now.vars local x.now.mark x.now.name (initial (t.expr_view e.now))) }
+    ensures { Gives stmt_view result
+        (judges.judge_begin (outside env.now) here.now type_name.now
+        (specified_view words.now) env.now.vars local x.now.mark x.now.name
+        (initial (t.expr_view e.now))) }
 {
     let value = check_expr(alloc, env, e)?;
     need_stand(alloc, env, here.outer, type_name, words, &x.mark, &x.name)?;
@@ -161,7 +170,10 @@ fn check_begin(
     local: u32,
     x: &Declarator,
 ) -> Result<CoreStmt, CheckEnd>
-    ensures { Gives stmt_view result (judges.judge_begin (outside env.now) here.now type_name.now (specified_view words.now) env.now.vars local x.now.mark x.now.name (t.initializer_view x.now.initializer)) }
+    ensures { Gives stmt_view result
+        (judges.judge_begin (outside env.now) here.now type_name.now
+        (specified_view words.now) env.now.vars local x.now.mark x.now.name
+        (t.initializer_view x.now.initializer)) }
 {
     match &x.initializer {
         Initializer::Nothing => begin_empty(alloc, env, here, type_name, words, local, x),
@@ -181,7 +193,10 @@ fn push_begin(
     x: &Declarator,
     steps: &mut Items<CoreStmt>,
 ) -> Result<(), CheckEnd>
-    ensures { Gives (λ u. steps_view steps.new) result (added (steps_view steps.old) (judges.judge_begin (outside env.now) here.now type_name.now (specified_view words.now) env.now.vars local x.now.mark x.now.name (t.initializer_view x.now.initializer))) }
+    ensures { Gives (λ u. steps_view steps.new) result (added (steps_view steps.old)
+        (judges.judge_begin (outside env.now) here.now type_name.now
+        (specified_view words.now) env.now.vars local x.now.mark x.now.name
+        (t.initializer_view x.now.initializer))) }
 {
     let step = check_begin(alloc, env, here, type_name, words, local, x)?;
     steps.push(step)?;
@@ -196,7 +211,8 @@ fn add_variable(
     ty: &Ty,
     local: u32,
 ) -> Result<(), AllocError>
-    ensures vars { OnOk result (env.new ≡ inside env.old (env.old.vars ++ variable name.now ty.now local ∷ [])) }
+    ensures vars { OnOk result (env.new ≡ inside env.old
+        (env.old.vars ++ variable name.now ty.now local ∷ [])) }
     ensures locals { OnOk result (locals.new ≡ locals.old ++ ty.now ∷ []) }
 {
     env.declare(name, *ty, local)?;
@@ -215,9 +231,15 @@ fn check_variable(
     x: &Declarator,
     steps: &mut Items<CoreStmt>,
 ) -> Result<(), CheckEnd>
-    ensures is { Gives (λ u. steps_view steps.new) result (added (steps_view steps.old) (judges.judge_begin (outside env.old) here.now type_name.now (specified_view words.now) env.old.vars (length locals.old) x.now.mark x.now.name (t.initializer_view x.now.initializer))) }
-    ensures vars { OnOk result (env.new ≡ inside env.old (env.old.vars ++ variable x.now.name.text (spec.variable_type x.now.mark (specified_view words.now)) (length locals.old) ∷ [])) }
-    ensures locals { OnOk result (locals.new ≡ locals.old ++ spec.variable_type x.now.mark (specified_view words.now) ∷ []) }
+    ensures is { Gives (λ u. steps_view steps.new) result (added (steps_view steps.old)
+        (judges.judge_begin (outside env.old) here.now type_name.now
+        (specified_view words.now) env.old.vars (length locals.old) x.now.mark x.now.name
+        (t.initializer_view x.now.initializer))) }
+    ensures vars { OnOk result (env.new ≡ inside env.old
+        (env.old.vars ++ variable x.now.name.text
+        (spec.variable_type x.now.mark (specified_view words.now)) (length locals.old) ∷ [])) }
+    ensures locals { OnOk result (locals.new ≡ locals.old ++ spec.variable_type x.now.mark
+        (specified_view words.now) ∷ []) }
 {
     let local = next_local(locals)?;
     push_begin(alloc, env, here, type_name, words, local, x, steps)?;
@@ -236,8 +258,12 @@ fn check_declarators(
     words: &Specified,
     names: &[Declarator],
 ) -> Result<Items<CoreStmt>, CheckEnd>
-    ensures is { Makes steps_view locals.new result (judges.judge_begins (outside env.old) here.now type_name.now (specified_view words.now) env.old.vars locals.old (map t.declarator_view names.now)) }
-    ensures vars { OnOk result (env.new ≡ inside env.old (env.old.vars ++ variables_from (specified_view words.now) (length locals.old) (map t.declarator_view names.now))) }
+    ensures is { Makes steps_view locals.new result
+        (judges.judge_begins (outside env.old) here.now type_name.now
+        (specified_view words.now) env.old.vars locals.old (map t.declarator_view names.now)) }
+    ensures vars { OnOk result (env.new ≡ inside env.old
+        (env.old.vars ++ variables_from (specified_view words.now) (length locals.old)
+        (map t.declarator_view names.now))) }
 {
     let mut steps = Items::new(alloc);
     for x in names {
@@ -255,9 +281,21 @@ pub fn check_variables(
     here: &Here,
     x: &Variables,
 ) -> Result<Items<CoreStmt>, CheckEnd>
-    ensures is { Makes steps_view locals.new result (judges.judge_variables (outside env.old) here.now env.old.vars locals.old (t.variables_view x.now)) }
-    ensures vars { OnOk result (env.new ≡ inside env.old (env.old.vars ++ declared_by env.old.classes (length locals.old) (t.variables_view x.now))) }
+    ensures is { Makes steps_view locals.new result
+        (judges.judge_variables (outside env.old) here.now env.old.vars locals.old
+        (t.variables_view x.now)) }
+    ensures vars { OnOk result (env.new ≡ inside env.old
+        (env.old.vars ++ declared_by env.old.classes (length locals.old)
+        (t.variables_view x.now))) }
 {
     let words = check_type(alloc, env, &x.type_name)?;
-    check_declarators(alloc, env, locals, here, &x.type_name, &words, x.names.as_slice())
+    check_declarators(
+        alloc,
+        env,
+        locals,
+        here,
+        &x.type_name,
+        &words,
+        x.names.as_slice(),
+    )
 }
