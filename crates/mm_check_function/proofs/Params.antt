@@ -1,5 +1,5 @@
 -- What the loops over parameters keep.
-use Rattle.std.proofs.Common.{◌≡◌, ℕ, ◌+◌, ◌<◌, ◌≤◌, List, [], ◌∷◌, ◌++◌, length, get_or, drop, refl, sym, ap, ◌∙◌, append_assoc, append-nil, arith}
+use Rattle.std.proofs.Common.{◌≡◌, ℕ, ◌+◌, ◌<◌, ◌≤◌, List, [], ◌∷◌, ◌++◌, length, get_or, drop, refl, sym, ap, subst, ◌∙◌, append_assoc, append-nil, arith}
 use Rattle.std.specs.Prelude.{Ok, Err}
 use Rattle.std.proofs.lemmas.List.{length-append, drop_more, drop_all}
 use Rattle.mm_classes.specs.declared.class.Ty.{Ty}
@@ -87,7 +87,7 @@ module _ (old : Environment) (first : ℕ) (qs : List Param) (i : ℕ) (env : En
       })
 
   pub params_next : (new : Environment) (more : List Ty) → new ≡ inside env (env.vars ++ parameter env.classes (first + length types) q) → added types (judge_param env.classes env.vars q) ≡ Ok more → ParamsSoFar old first qs (i + 1) new more
-  params_next new more e found = let a = added_is types more (judge_param env.classes env.vars q) found in next_one new a.0 more (rw classes at e) (rw classes at a.1) a.2
+  params_next new more e found = let a = added_is types more (judge_param env.classes env.vars q) found in next_one new a.0 more (e ∙ ap (λ g. inside env (env.vars ++ parameter g (first + length types) q)) classes) (subst (λ g. judge_param g env.vars q ≡ Ok a.0) classes a.1) a.2
 
   params_fail : (f : Fault) → judge_param old.classes env.vars q ≡ Err f → judge_params old.classes first old.vars qs ≡ Err f
   unfolding judge_params
@@ -95,7 +95,7 @@ module _ (old : Environment) (first : ℕ) (qs : List Param) (i : ℕ) (env : En
 
   pub params_fail_as : (end : CheckEnd) → Fails end (added types (judge_param env.classes env.vars q)) → Fails end (judge_params old.classes first old.vars qs)
   params_fail_as ends.NoMemory f = tt
-  params_fail_as (ends.Fault code place text) f = params_fail (at code place text) (rw classes at added_fails types _ (judge_param env.classes env.vars q) f)
+  params_fail_as (ends.Fault code place text) f = params_fail (at code place text) (subst (λ g. judge_param g env.vars q ≡ Err (at code place text)) classes (added_fails types (at code place text) (judge_param env.classes env.vars q) f))
 
 module _ (old : Environment) (first : ℕ) (qs : List Param) (i : ℕ) (env : Environment) (types : List Ty) (past : length qs ≤ i) (h : ParamsSoFar old first qs i env types) where
   pub params_end : judge_params old.classes first old.vars qs ≡ Ok types

@@ -1,7 +1,8 @@
 //! Bodies of functions.
 
-ghost use Rattle.std.specs.Prelude.{◌≡◌, ◌<◌, ◌++◌, length, drop, Ok, IfOk, IfSome, OnOk};
+ghost use Rattle.std.specs.Prelude.{◌≡◌, ◌<◌, ◌++◌, List, length, drop, Ok, IfOk, IfSome, OnOk};
 ghost use Rattle.mm_classes.specs.Classes.{IsComplete};
+ghost use Rattle.mm_classes.specs.declared.class.Ty.{Ty};
 ghost use Rattle.mm_core.specs.Heads.{this_of};
 ghost use Rattle.mm_core.specs.View.{function_view};
 ghost use Rattle.mm_syntax.specs.View as t;

@@ -1,6 +1,6 @@
 //! The functions that are declared.
 
-ghost use Rattle.std.specs.Prelude.{◌≡◌, ◌<◌, ◌++◌, [], ◌∷◌, length, map, Some, None, Ok, IfOk, OnOk, MatchOption};
+ghost use Rattle.std.specs.Prelude.{◌≡◌, ◌<◌, ◌++◌, [], ◌∷◌, length, map, false, Some, None, Ok, IfOk, OnOk, MatchOption};
 ghost use Rattle.mm_core.specs.Heads.{same_type, same_types, type_code, types_of_params};
 ghost use Rattle.mm_core.specs.View.{function_view};
 ghost use Rattle.mm_checks.specs.Checks.{Gives};
@@ -195,7 +195,27 @@ fn next_number(fs: &Items<CoreFn>) -> Result<u32, CheckEnd>
     }
 }
 
-/// Declares a function behind the others. It ends in a fault never.
+// What is seen of the next function.
+fn next_head(alloc: Global, fs: &Items<CoreFn>, f: &CoreFn) -> Result<FnHead, CheckEnd>
+    ensures { Gives (λ h. h) result (Ok (head_of (length fs.now) (function_view f.now))) }
+{
+    let number = next_number(fs)?;
+    Ok(new_head(alloc, number, f)?)
+}
+
+// The function stands behind the others, and is seen.
+fn put(d: &mut Declared, f: CoreFn, head: FnHead) -> Result<(), AllocError>
+    ensures { OnOk result (d.new ≡ record {
+        env = record d.old.env { functions = d.old.env.functions ++ head ∷ [] };
+        marks = d.old.marks;
+        functions = d.old.functions ++ f ∷ [] }) }
+{
+    d.functions.push(f)?;
+    d.env.declare_function(head)?;
+    Ok(())
+}
+
+/// Declares a function behind the others. It never ends in a fault.
 pub fn push_function(alloc: Global, d: &mut Declared, f: CoreFn) -> Result<(), CheckEnd>
     requires { Stands d.old }
     ensures is { OnOk result (declarations d.new ≡ with_functions (declarations d.old) (functions_view d.old.functions ++ function_view f ∷ [])) }
@@ -203,10 +223,8 @@ pub fn push_function(alloc: Global, d: &mut Declared, f: CoreFn) -> Result<(), C
     ensures stands { OnOk result (Stands d.new) }
     ensures classes { OnOk result (d.new.env.classes ≡ d.old.env.classes) }
 {
-    let number = next_number(&d.functions)?;
-    let head = new_head(alloc, number, &f)?;
-    d.functions.push(f)?;
-    d.env.declare_function(head)?;
+    let head = next_head(alloc, &d.functions, &f)?;
+    put(d, f, head)?;
     Ok(())
 }
 
