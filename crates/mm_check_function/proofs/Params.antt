@@ -93,11 +93,18 @@ module _ (old : Environment) (first : ℕ) (qs : List Param) (i : ℕ) (env : En
   unfolding judge_params
   params_fail f found = sym (rw (next_param qs i q is low, found) at h.whole)
 
-  pub params_fail_as : (end : CheckEnd) → Fails end (added types (judge_param env.classes env.vars q)) → Fails end (judge_params old.classes first old.vars qs)
-  params_fail_as ends.NoMemory f = tt
-  params_fail_as (ends.Fault code place text) f = params_fail (at code place text) (subst (λ g. judge_param g env.vars q ≡ Err (at code place text)) classes (added_fails types (at code place text) (judge_param env.classes env.vars q) f))
+  pub params_fail_as : old.vars ≡ [] → (end : CheckEnd) → Fails end (added types (judge_param env.classes env.vars q)) → Fails end (judge_params old.classes first [] qs)
+  params_fail_as none ends.NoMemory f = tt
+  params_fail_as none (ends.Fault code place text) f = subst (λ vs. judge_params old.classes first vs qs ≡ Err (at code place text)) none (params_fail (at code place text) (subst (λ g. judge_param g env.vars q ≡ Err (at code place text)) classes (added_fails types (at code place text) (judge_param env.classes env.vars q) f)))
 
 module _ (old : Environment) (first : ℕ) (qs : List Param) (i : ℕ) (env : Environment) (types : List Ty) (past : length qs ≤ i) (h : ParamsSoFar old first qs i env types) where
-  pub params_end : judge_params old.classes first old.vars qs ≡ Ok types
+  whole_end : judge_params old.classes first old.vars qs ≡ Ok types
   unfolding judge_params
-  params_end = sym (rw (drop_all i qs past) at h.whole) ∙ ap (λ s. Ok s) (append-nil types)
+  whole_end = sym (rw (drop_all i qs past) at h.whole) ∙ ap (λ s. Ok s) (append-nil types)
+
+  pub params_end : old.vars ≡ [] → judge_params old.classes first [] qs ≡ Ok types
+  params_end none = subst (λ vs. judge_params old.classes first vs qs ≡ Ok types) none whole_end
+
+  -- behind the parameters' scope
+  pub params_left : old.vars ≡ [] → inside env [] ≡ old
+  params_left none = ap (λ e. inside e []) h.keeps ∙ ap (λ vs. inside old vs) (sym none)

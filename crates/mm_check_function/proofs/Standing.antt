@@ -1,6 +1,6 @@
 -- What a unit has declared, when a function is declared, or defined.
-use Rattle.std.proofs.Common.{◌≡◌, ℕ, ◌+◌, ◌<◌, Bool, List, [], ◌∷◌, ◌++◌, length, get_or, set, sym, ap, ◌∙◌, arith}
-use Rattle.std.specs.Prelude.{Option, None}
+use Rattle.std.proofs.Common.{◌≡◌, ℕ, ◌+◌, ◌<◌, Bool, List, [], ◌∷◌, ◌++◌, length, get_or, set, refl, sym, ap, ◌∙◌, arith}
+use Rattle.std.specs.Prelude.{Option, None, Result, Ok, Err, OnOk}
 use Rattle.std.proofs.lemmas.List.{map-append, map-set, length-map, get_or-map}
 use Rattle.mm_classes.specs.Classes.{Class}
 use Rattle.mm_classes.specs.declared.class.Ty.{Ty}
@@ -11,7 +11,8 @@ use Rattle.mm_core.specs.View.{function_view}
 use Rattle.mm_scopes.specs.declared.head.FnHead.{FnHead}
 use Rattle.mm_scopes.specs.Environment.{Environment}
 use Rattle.mm_unit_typing.specs.Functions.{Declarations, head_of, heads_from, defined_with, with_body, seen}
-use Rattle.mm_check_function.specs.Known.{functions_view}
+use Rattle.mm_check_function.specs.declared.declared.Declared.{Declared}
+use Rattle.mm_check_function.specs.Known.{functions_view, declarations, Stands}
 use Rattle.mm_check_function.proofs.Finding.{heads_push, heads_body, body_set}
 
 -- an environment that sees what is declared, and other functions
@@ -45,3 +46,22 @@ body_put fs n f g in_class locals body at low is =
 -- what is seen of a function isn't its body
 pub heads_still : (fs gs : List CoreFn) (hs : List FnHead) (n : ℕ) (in_class : Bool) (locals : List Ty) (body : k.Stmt) → hs ≡ heads_from 0 (functions_view fs) → functions_view gs ≡ with_body (functions_view fs) n in_class locals body → hs ≡ heads_from 0 (functions_view gs)
 heads_still fs gs hs n in_class locals body sees is = sees ∙ (sym (heads_body (functions_view fs) 0 n in_class locals body) ∙ ap (heads_from 0) (sym is))
+
+-- ---- what stands still stands
+
+pub on_ok : {A E : Type 0} {P Q : Type 0} (r : Result A E) → (P → Q) → OnOk r P → OnOk r Q
+on_ok (Ok x) f p = f p
+on_ok (Err e) f p = tt
+
+module _ (d : Declared) (stands : Stands d) where
+  pub sees : d.env.functions ≡ heads_from 0 (functions_view d.functions)
+  sees = ap (λ (x : Environment). x.functions) stands
+
+  pub stands_pushed : (f : CoreFn) (e : Declared) → e ≡ record { env = record d.env { functions = d.env.functions ++ head_of (length d.functions) (function_view f) ∷ [] }; marks = d.marks; functions = d.functions ++ f ∷ [] } → Stands e
+  stands_pushed f e is = rw is (seen_with d.env (declarations d) (record (declarations d) { functions = functions_view (d.functions ++ f ∷ []) })
+      (d.env.functions ++ head_of (length d.functions) (function_view f) ∷ []) stands refl
+      (heads_behind d.functions f d.env.functions (length d.functions) _ sees refl refl))
+
+  pub stands_defined : (gs : List CoreFn) (n : ℕ) (in_class : Bool) (locals : List Ty) (body : k.Stmt) → functions_view gs ≡ with_body (functions_view d.functions) n in_class locals body → Stands (record d { functions = gs })
+  stands_defined gs n in_class locals body is = seen_with d.env (declarations d) (record (declarations d) { functions = functions_view gs })
+      d.env.functions stands refl (heads_still d.functions gs d.env.functions n in_class locals body sees is)

@@ -1,13 +1,11 @@
 //! Bodies of functions.
 
-ghost use Rattle.std.specs.Prelude.{◌≡◌, ◌<◌, ◌++◌, List, length, drop, Ok, IfOk, IfSome, OnOk};
+ghost use Rattle.std.specs.Prelude.{◌≡◌, ◌<◌, ◌++◌, length, drop, Ok, IfOk, IfSome, OnOk};
 ghost use Rattle.mm_classes.specs.Classes.{IsComplete};
-ghost use Rattle.mm_classes.specs.declared.class.Ty.{Ty};
 ghost use Rattle.mm_core.specs.Heads.{this_of};
 ghost use Rattle.mm_core.specs.View.{function_view};
 ghost use Rattle.mm_syntax.specs.View as t;
 ghost use Rattle.mm_checks.specs.Checks.{Gives};
-ghost use Rattle.mm_unit_typing.specs.Heads.{heading};
 ghost use Rattle.mm_unit_typing.specs.Functions.{defined_with, function_number, with_body};
 ghost use Rattle.mm_unit_typing.specs.Made.{block_of};
 ghost use Rattle.mm_unit_typing.specs.JudgeHeads.{judge_body};
@@ -82,15 +80,14 @@ fn check_steps(
     d: &mut Declared,
     locals: &mut Items<Ty>,
     class: Option<ClassId>,
-    ty: Ty,
+    signature: &Signature,
     params: &[Param],
     body: &Stmt,
 ) -> Result<Items<CoreStmt>, CheckEnd>
-    ghost types: { List Ty }
     requires stands { Stands d.old }
     requires complete { IfSome class (IsComplete d.old.env.classes) }
-    requires locals { locals.old ≡ this_of class ++ types }
-    ensures is { Makes steps_view locals.new result (judge_body (declarations d.old) class (heading ty types) params.now (t.stmt_view body.now)) }
+    requires locals { locals.old ≡ this_of class ++ signature.now.params }
+    ensures is { Makes steps_view locals.new result (judge_body (declarations d.old) class (heading_view signature.now) params.now (t.stmt_view body.now)) }
     ensures same { OnOk result (d.new ≡ d.old) }
 {
     d.env.set_from(Context { class });
@@ -98,7 +95,7 @@ fn check_steps(
     let here = Here {
         outer: 0,
         in_loop: false,
-        result: ty,
+        result: signature.result,
     };
     let steps = check_stmt(alloc, &mut d.env, locals, &here, body)?;
     d.env.leave(0);
@@ -201,8 +198,7 @@ pub fn check_body(
     let types = signature.params.as_slice();
     let mut locals = first_locals(alloc, owner.class, types)?;
     let first = locals.len();
-    let ty = signature.result;
-    let steps = check_steps(alloc, d, &mut locals, owner.class, ty, params, body)?;
+    let steps = check_steps(alloc, d, &mut locals, owner.class, signature, params, body)?;
     let own = behind(locals.as_slice(), first);
     define(alloc, d, owner.in_class, name, types, own, steps)?;
     Ok(())

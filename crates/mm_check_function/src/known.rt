@@ -204,14 +204,16 @@ fn next_head(alloc: Global, fs: &Items<CoreFn>, f: &CoreFn) -> Result<FnHead, Ch
 }
 
 // The function stands behind the others, and is seen.
-fn put(d: &mut Declared, f: CoreFn, head: FnHead) -> Result<(), AllocError>
-    ensures { OnOk result (d.new ≡ record {
-        env = record d.old.env { functions = d.old.env.functions ++ head ∷ [] };
+fn put(d: &mut Declared, f: CoreFn, head: Result<FnHead, CheckEnd>) -> Result<(), CheckEnd>
+    requires { Gives (λ h. h) head (Ok (head_of (length d.old.functions) (function_view f))) }
+    ensures is { OnOk result (d.new ≡ record {
+        env = record d.old.env { functions = d.old.env.functions ++ head_of (length d.old.functions) (function_view f) ∷ [] };
         marks = d.old.marks;
         functions = d.old.functions ++ f ∷ [] }) }
+    ensures end { Gives (λ u. u) result (Ok tt) }
 {
     d.functions.push(f)?;
-    d.env.declare_function(head)?;
+    d.env.declare_function(head?)?;
     Ok(())
 }
 
@@ -223,9 +225,8 @@ pub fn push_function(alloc: Global, d: &mut Declared, f: CoreFn) -> Result<(), C
     ensures stands { OnOk result (Stands d.new) }
     ensures classes { OnOk result (d.new.env.classes ≡ d.old.env.classes) }
 {
-    let head = next_head(alloc, &d.functions, &f)?;
-    put(d, f, head)?;
-    Ok(())
+    let head = next_head(alloc, &d.functions, &f);
+    put(d, f, head)
 }
 
 // A function outside classes that no one declared before.
