@@ -1,0 +1,6 @@
+pub mod Steps
+pub mod Looking
+pub mod BaseLists
+pub mod Members
+pub mod BodyLists
+pub mod Naming

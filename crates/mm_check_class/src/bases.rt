@@ -1,6 +1,8 @@
 // The bases of a class.
 
-ghost use Rattle.std.specs.Prelude.{◌≡◌, [], IfOk};
+ghost use Rattle.std.specs.Prelude.{◌≡◌, [], nat_eq, IfOk};
+ghost use Rattle.std.specs.List.{list_any};
+ghost use Rattle.mm_classes.specs.declared.class.Base as spec;
 ghost use Rattle.mm_typing.specs.Objects as objects;
 ghost use Rattle.mm_checks.specs.Checks.{Gives, wanted};
 ghost use Rattle.mm_unit_typing.specs.Classes.{is_new_base};
@@ -47,11 +49,18 @@ fn want_complete(alloc: Global, env: &Env, name: &Name) -> Result<ClassId, Check
     }
 }
 
-// Whether the class is none of the bases.
+// Whether the class is one of the bases.
+fn is_base(bases: &[Base], class: ClassId) -> bool
+    ensures { result ≡ list_any (λ (x : spec.Base). nat_eq x.class class) bases.now }
+{
+    bases.iter().any(|base| base.class.number == class.number)
+}
+
+// Whether it is none of them.
 fn is_new(bases: &[Base], class: ClassId) -> bool
     ensures { result ≡ is_new_base bases.now class }
 {
-    !bases.iter().any(|base| base.class.number == class.number)
+    !is_base(bases, class)
 }
 
 // A base behind others.

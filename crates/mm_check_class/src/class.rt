@@ -101,7 +101,8 @@ pub fn check_class(alloc: Global, d: &mut Declared, x: &ClassDecl) -> Result<(),
         ClassDeclKind::Declaration(key, name) => check_declaration(alloc, d, x.place, *key, name),
         ClassDeclKind::Definition(key, name, bases, items, text) => {
             let class = declare_name(alloc, d, name)?;
-            let (bases, items) = (bases.as_slice(), items.as_slice());
+            let bases = bases.as_slice();
+            let items = items.as_slice();
             let access = default_access(*key);
             check_definition(alloc, d, class, name, access, bases, items, text.as_str())
         }

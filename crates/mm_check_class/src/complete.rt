@@ -1,14 +1,14 @@
 // The class itself, and what is declared with it.
 
-ghost use Rattle.std.specs.Prelude.{◌≡◌, ◌<◌, ◌≤◌, ◌++◌, [], ◌∷◌, length, false, OnOk};
+ghost use Rattle.std.specs.Prelude.{◌≡◌, ◌<◌, ◌≤◌, ◌++◌, [], ◌∷◌, ◌^◌, true, false, length, Ok, OnOk};
 ghost use Rattle.mm_classes.specs.Adding.{added};
 ghost use Rattle.mm_classes.specs.Classes as graphs;
 ghost use Rattle.mm_checks.specs.Checks.{Gives, demand};
 ghost use Rattle.mm_typing.specs.Calls.{qualified};
 ghost use Rattle.mm_unit_typing.specs.Functions.{declared_function};
 ghost use Rattle.mm_unit_typing.specs.Classes as classes;
-ghost use Rattle.mm_unit_typing.specs.Members as members;
-ghost use Rattle.mm_check_function.specs.Known.{declarations, functions_view, Stands};
+ghost use Rattle.mm_unit_typing.specs.Members as methods;
+ghost use Rattle.mm_check_function.specs.Known.{declarations, functions_view, with_functions, Stands};
 ghost use Rattle.mm_check_class.specs.Parts.{AreBases, AreMembers, judge_complete, limited};
 
 use crate::words::{destructor_name, qualify};
@@ -76,7 +76,8 @@ fn add_few(
         Ok(()) => Ok(()),
         Err(GraphEnd::Many) => refuse_size(alloc, name),
         Err(GraphEnd::NoMemory) => Err(CheckEnd::NoMemory),
-        Err(GraphEnd::Twice(_) | GraphEnd::Unknown(_)) => unreachable!(),
+        Err(GraphEnd::Twice(_)) => unreachable!(),
+        Err(GraphEnd::Unknown(_)) => unreachable!(),
     }
 }
 
@@ -137,15 +138,16 @@ fn declare_function(
     params: &[Ty],
 ) -> Result<(), CheckEnd>
     requires { Stands d.old }
-    ensures is { OnOk result (declarations d.new ≡ record (declarations d.old) { functions =
-        functions_view d.old.functions ++ declared_function true
-        (qualified class.now member.now.name) member.now.place ty params.now ∷ [] }) }
+    ensures is { Gives (λ u. declarations d.new) result (Ok (with_functions (declarations d.old)
+        (functions_view d.old.functions ++ declared_function true
+        (qualified class.now member.now.name) member.now.place ty params.now ∷ []))) }
     ensures stands { OnOk result (Stands d.new) }
     ensures classes { OnOk result (d.new.env.classes ≡ d.old.env.classes) }
 {
     let name = qualify(alloc, class, member.name.as_str())?;
     let f = new_function(alloc, true, name.as_str(), member.place, ty, params)?;
-    push_function(alloc, d, f)
+    push_function(alloc, d, f)?;
+    Ok(())
 }
 
 // The function that a member is, where it is one that is called.
@@ -157,9 +159,10 @@ fn declare_method(
     member: &Member,
 ) -> Result<(), CheckEnd>
     requires stands { Stands d.old }
-    requires destructor { destructor.now ≡ members.destructor_name class.now }
-    ensures is { OnOk result (declarations d.new ≡ record (declarations d.old) { functions =
-        functions_view d.old.functions ++ members.method_functions class.now (member.now ∷ []) }) }
+    requires destructor { destructor.now ≡ methods.destructor_name class.now }
+    ensures is { Gives (λ u. declarations d.new) result (Ok (with_functions (declarations d.old)
+        (functions_view d.old.functions ++ methods.method_functions class.now
+        (member.now ∷ [])))) }
     ensures stands { OnOk result (Stands d.new) }
     ensures classes { OnOk result (d.new.env.classes ≡ d.old.env.classes) }
 {
@@ -182,8 +185,8 @@ fn declare_methods(
     members: &[Member],
 ) -> Result<(), CheckEnd>
     requires { Stands d.old }
-    ensures is { OnOk result (declarations d.new ≡ record (declarations d.old) { functions =
-        functions_view d.old.functions ++ members.method_functions class.now members.now }) }
+    ensures is { Gives (λ u. declarations d.new) result (Ok (with_functions (declarations d.old)
+        (functions_view d.old.functions ++ methods.method_functions class.now members.now))) }
     ensures stands { OnOk result (Stands d.new) }
     ensures classes { OnOk result (d.new.env.classes ≡ d.old.env.classes) }
 {

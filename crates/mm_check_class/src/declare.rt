@@ -1,7 +1,8 @@
 // The name of a class, among what is declared.
 
-ghost use Rattle.std.specs.Prelude.{◌≡◌, ◌<◌, ◌≤◌, ◌++◌, [], ◌∷◌, if◌then◌else◌, length, IfOk, OnOk};
+ghost use Rattle.std.specs.Prelude.{◌≡◌, ◌<◌, ◌≤◌, ◌++◌, [], ◌∷◌, if◌then◌else◌, length, Ok, IfOk, OnOk};
 ghost use Rattle.mm_classes.specs.Adding.{declared};
+ghost use Rattle.mm_checks.specs.Checks.{Gives};
 ghost use Rattle.mm_unit_typing.specs.Classes as classes;
 ghost use Rattle.mm_check_function.specs.Known.{declarations, Stands};
 
@@ -18,7 +19,7 @@ use std::alloc::{AllocError, Global};
 // The number of the class of the name, which is declared from here on.
 fn declare_class(env: &mut Env, name: &str) -> Result<ClassId, CheckEnd>
     requires { length env.old.classes ≤ 1024 }
-    ensures class { IfOk result (λ c. c ≡ classes.class_number env.old.classes name.now) }
+    ensures class { Gives (λ c. c) result (Ok (classes.class_number env.old.classes name.now)) }
     ensures here { OnOk result (IfOk result (λ c. c < length env.new.classes)) }
     ensures env { OnOk result (env.new ≡ record env.old { classes =
         declared (classes.class_number env.old.classes name.now) env.old.classes name.now }) }
@@ -53,7 +54,8 @@ fn mark(
 pub fn declare_name(alloc: Global, d: &mut Declared, name: &Name) -> Result<ClassId, CheckEnd>
     requires stands { Stands d.old }
     requires few { length d.old.env.classes ≤ 1024 }
-    ensures class { IfOk result (λ c. c ≡ classes.class_number d.old.env.classes name.now.text) }
+    ensures class { Gives (λ c. c) result
+        (Ok (classes.class_number d.old.env.classes name.now.text)) }
     ensures here { OnOk result (IfOk result (λ c. c < length d.new.env.classes)) }
     ensures is { OnOk result
         (declarations d.new ≡ classes.with_class (declarations d.old) name.now) }

@@ -94,10 +94,10 @@ pub fn check_items(
     ensures env { OnOk result (env.new ≡ env.old) }
 {
     let mut table = MemberTable::new(alloc);
-    let mut access = access;
+    let mut current = access;
     for x in items {
-        check_item(alloc, env, class, access, &mut table, x)?;
-        access = access_behind(access, x);
+        check_item(alloc, env, class, current, &mut table, x)?;
+        current = access_behind(current, x);
     }
     Ok(table.into_list())
 }

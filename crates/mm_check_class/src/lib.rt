@@ -10,4 +10,5 @@ pub(crate) mod fields;
 pub(crate) mod items;
 pub(crate) mod methods;
 pub(crate) mod table;
+pub(crate) mod types;
 pub(crate) mod words;

@@ -5,8 +5,8 @@ ghost use Rattle.mm_unit_typing.specs.Members.{is_new_member, is_new_method};
 ghost use Rattle.mm_check_class.specs.Parts as parts;
 ghost use Rattle.mm_check_class.specs.Tables.{Holds, head_with, member_heads, member_vars};
 
+use crate::types::are_same;
 use mm_base::text::Text;
-use mm_check_function::known::are_same;
 use mm_classes::class::{Member, MemberKind, Ty};
 use mm_lookup::found::Context;
 use mm_paths::graph::Graph;

@@ -25,6 +25,10 @@ declarations d = record {
   functions = functions_view d.functions;
 }
 
+-- the same with these functions
+abbrev pub with_functions : Declarations → List k.Function → Declarations
+with_functions d fs = record d { functions = fs }
+
 -- what is seen between declarations is what is declared, and no variables
 abbrev pub Stands : Declared → Type 0
 Stands d = d.env ≡ seen (declarations d) None

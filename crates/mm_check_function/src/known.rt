@@ -1,10 +1,11 @@
 //! The functions that are declared.
 
-ghost use Rattle.std.specs.Prelude.{◌≡◌, ◌++◌, [], ◌∷◌, IfOk, OnOk};
+ghost use Rattle.std.specs.Prelude.{◌≡◌, ◌++◌, [], ◌∷◌, Ok, IfOk, OnOk};
 ghost use Rattle.mm_core.specs.Heads.{same_type, same_types, type_code};
 ghost use Rattle.mm_core.specs.View.{function_view};
+ghost use Rattle.mm_checks.specs.Checks.{Gives};
 ghost use Rattle.mm_unit_typing.specs.Functions.{declared_function};
-ghost use Rattle.mm_check_function.specs.Known.{declarations, functions_view, Stands};
+ghost use Rattle.mm_check_function.specs.Known.{declarations, functions_view, with_functions, Stands};
 
 use crate::declared::Declared;
 use mm_base::place::Place;
@@ -32,8 +33,7 @@ pub(crate) fn is_same(a: &Ty, b: &Ty) -> bool
     code(a) == code(b)
 }
 
-/// Whether these are the same types.
-pub fn are_same(a: &[Ty], b: &[Ty]) -> bool
+pub(crate) fn are_same(a: &[Ty], b: &[Ty]) -> bool
     ensures { result ≡ same_types a.now b.now }
 {
     match a {
@@ -62,7 +62,9 @@ pub fn new_function(
 /// Declares a function behind the others.
 pub fn push_function(alloc: Global, d: &mut Declared, f: CoreFn) -> Result<(), CheckEnd>
     requires { Stands d.old }
-    ensures is { OnOk result (declarations d.new ≡ record (declarations d.old) { functions = functions_view d.old.functions ++ function_view f ∷ [] }) }
+    ensures is { OnOk result (declarations d.new ≡ with_functions (declarations d.old)
+        (functions_view d.old.functions ++ function_view f ∷ [])) }
+    ensures end { Gives (λ u. u) result (Ok tt) }
     ensures stands { OnOk result (Stands d.new) }
     ensures classes { OnOk result (d.new.env.classes ≡ d.old.env.classes) }
 {
