@@ -1,0 +1,2 @@
+//! The program of a typed unit with classes is valid.
+#![tactic(auto)]
