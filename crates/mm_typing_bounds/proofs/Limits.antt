@@ -22,14 +22,18 @@ use Rattle.mm_syntax.specs.declared.decl.FnDecl.{FnDecl}
 use Rattle.mm_syntax.specs.declared.decl.FnDeclKind.{FnDeclKind}
 use Rattle.mm_syntax.specs.declared.decl.FnDeclKind.TheVariants as f
 use Rattle.mm_syntax.specs.declared.decl.Decl.{Decl}
+use Rattle.mm_syntax.specs.declared.decl.Member.{Member}
+use Rattle.mm_syntax.specs.declared.decl.Member.TheVariants as m
+use Rattle.mm_syntax.specs.declared.decl.ClassDeclKind.{ClassDeclKind}
+use Rattle.mm_syntax.specs.declared.decl.ClassDeclKind.TheVariants as c
 use Rattle.mm_syntax.specs.declared.decl.DeclKind.{DeclKind}
 use Rattle.mm_syntax.specs.declared.decl.DeclKind.TheVariants as d
 use Rattle.mm_syntax.specs.declared.decl.Unit.{Unit as UnitInMemory}
 use Rattle.mm_syntax.specs.Limits as limits
-use Rattle.mm_syntax.specs.Limits.{listed_tokens, own_tokens, tokens_of, maybe, initializer_exprs, variables_exprs, start_exprs, stmt_exprs, exprs_of_stmt, most, stmt_depth, depth_of, fn_bodies, decl_functions, functions_of, bodies_of, IsWithinLimits}
+use Rattle.mm_syntax.specs.Limits.{listed_tokens, own_tokens, tokens_of, maybe, initializer_exprs, variables_exprs, start_exprs, stmt_exprs, exprs_of_stmt, most, stmt_depth, depth_of, fn_bodies, member_functions, class_members, decl_functions, functions_of, bodies_of, IsWithinLimits}
 use Rattle.mm_syntax.specs.Tree as t
-use Rattle.mm_syntax.specs.View.{exprs_of, expr_step, kind_view, expr_view, maybe_view, initializer_view, declarator_view, start_view, return_view, stmts_of, stmt_step, stmt_kind_view, stmt_view, function_kind_view, decl_kind_view, decl_view}
-use Rattle.mm_typing_bounds.specs.Sizes.{size, sizes, InitializerIsShort, DeclaratorsAreShort, StartIsShort, MaybeShort, StmtIsShort, StmtsAreShort, levels, all_levels, FunctionIsSmall, DeclsAreSmall}
+use Rattle.mm_syntax.specs.View.{exprs_of, expr_step, kind_view, expr_view, maybe_view, initializer_view, declarator_view, start_view, return_view, stmts_of, stmt_step, stmt_kind_view, stmt_view, maybe_stmt_view, function_kind_view, item_view, class_kind_view, decl_kind_view, decl_view}
+use Rattle.mm_typing_bounds.specs.Sizes.{size, sizes, InitializerIsShort, DeclaratorsAreShort, StartIsShort, MaybeShort, StmtIsShort, StmtsAreShort, levels, all_levels, BodyIsSmall, FunctionIsSmall, ItemsAreSmall, ClassIsSmall, DeclIsSmall, DeclsAreSmall}
 use Rattle.mm_typing_bounds.specs.Bounded.{UnitIsSmall}
 
 -- ---- expressions
@@ -245,22 +249,43 @@ module _ (u : UnitInMemory) (l : IsWithinLimits u) where
       in_unit : (e : ExprTree) → Has (exprs_of_stmt body) e → Has (limits.exprs_of u) e
       in_unit e n = Has-right (flat_map (λ x. flat_map (λ y. y.arguments) (limits.fn_inits x.kind)) (functions_of u)) (flat_map exprs_of_stmt (bodies_of u)) (Has-flat_map exprs_of_stmt (bodies_of u) body m n)
 
+  maybe_small : (o : Option StmtTree) → ((body : StmtTree) → Has (maybe o) body → Has (bodies_of u) body) → BodyIsSmall MAX_TOKEN_RUN MAX_NESTING (maybe_stmt_view o)
+  maybe_small None g = tt
+  maybe_small (Some body) g = body_small body (g body (first refl))
+
   kind_small : (p : Place) (k : FnDeclKind) → ((body : StmtTree) → Has (fn_bodies k) body → Has (bodies_of u) body) → FunctionIsSmall MAX_TOKEN_RUN MAX_NESTING (function_kind_view p k)
   kind_small p (f.Declaration head) g = tt
   kind_small p (f.Definition head body) g = body_small body (g body (first refl))
-  kind_small p (f.MemberDefinition class head body) g = tt
+  kind_small p (f.MemberDefinition class head body) g = body_small body (g body (first refl))
   kind_small p (f.ConstructorDefinition class word params body) g = tt
-  kind_small p (f.Method virtual_at head body) g = tt
+  kind_small p (f.Method virtual_at head body) g = maybe_small body g
   kind_small p (f.Destructor virtual_at word has_void) g = tt
   kind_small p (f.Constructor word params body) g = tt
 
-  kinds_small : (p : Place) (k : DeclKind) (rest : List t.Decl) → ((x : FnDecl) → Has (decl_functions k) x → Has (functions_of u) x) → DeclsAreSmall MAX_TOKEN_RUN MAX_NESTING rest → DeclsAreSmall MAX_TOKEN_RUN MAX_NESTING (decl_kind_view p k ∷ rest)
-  kinds_small p (d.Class x) rest g r = r
-  kinds_small p (d.Function x) rest g r = (kind_small x.place x.kind (λ body m. Has-flat_map (λ x. fn_bodies x.kind) (functions_of u) x (g x (first refl)) m), r)
+  function_small : (x : FnDecl) → Has (functions_of u) x → FunctionIsSmall MAX_TOKEN_RUN MAX_NESTING (function_kind_view x.place x.kind)
+  function_small x has = kind_small x.place x.kind (λ body m. Has-flat_map (λ x. fn_bodies x.kind) (functions_of u) x has m)
+
+  -- the functions of these members are functions of the unit
+  items_small : (ms : List Member) → ((x : FnDecl) → Has (flat_map member_functions ms) x → Has (functions_of u) x) → ItemsAreSmall MAX_TOKEN_RUN MAX_NESTING (map item_view ms)
+  items_small [] g = tt
+  items_small (m.Access access ∷ ms) g = (tt, items_small ms g)
+  items_small (m.Fields type_name names ∷ ms) g = (tt, items_small ms g)
+  items_small (m.Function x ∷ ms) g = (function_small x (g x (first refl)), items_small ms (λ y h. g y (later h)))
+
+  class_small : (p : Place) (k : ClassDeclKind) → ((x : FnDecl) → Has (flat_map member_functions (class_members k)) x → Has (functions_of u) x) → ClassIsSmall MAX_TOKEN_RUN MAX_NESTING (class_kind_view p k)
+  class_small p (c.Declaration key class) g = tt
+  class_small p (c.Definition key class bases members text) g = items_small members g
+
+  decl_small : (p : Place) (k : DeclKind) → ((x : FnDecl) → Has (decl_functions k) x → Has (functions_of u) x) → DeclIsSmall MAX_TOKEN_RUN MAX_NESTING (decl_kind_view p k)
+  decl_small p (d.Class x) g = class_small x.place x.kind g
+  decl_small p (d.Function x) g = function_small x (g x (first refl))
 
   decls_small : (ds : List Decl) → ((x : Decl) → Has ds x → Has u.decls x) → DeclsAreSmall MAX_TOKEN_RUN MAX_NESTING (map decl_view ds)
   decls_small [] g = tt
-  decls_small (x ∷ ds) g = kinds_small x.place x.kind (map decl_view ds) (λ y m. Has-flat_map (λ x. decl_functions x.kind) u.decls x (g x (first refl)) m) (decls_small ds (λ y m. g y (later m)))
+  decls_small (x ∷ ds) g = (
+    decl_small x.place x.kind (λ y h. Has-flat_map (λ x. decl_functions x.kind) u.decls x (g x (first refl)) h),
+    decls_small ds (λ y h. g y (later h)),
+  )
 
 pub unit_is_small : UnitIsSmall
 unit_is_small u l = decls_small u l u.decls (λ x m. m)

@@ -9,13 +9,16 @@ use Rattle.mm_core.specs.Sizes.{stmt_depth, stmts_depth}
 use Rattle.mm_simulate.specs.Lowered.{nesting_stmt, nesting_stmts, reach_stmt, reach_stmts}
 use Rattle.mm_scopes.specs.Environment.{Environment}
 use Rattle.mm_scopes.specs.declared.head.Var.{Var}
+use Rattle.mm_syntax.specs.declared.name.DeclaratorMark.{DeclaratorMark}
+use Rattle.mm_syntax.specs.declared.expr.TypeName.{TypeName}
 use Rattle.mm_syntax.specs.Tree as syntax
 use Rattle.mm_typing.specs.Typed.{Typed}
 use Rattle.mm_typing.specs.Typing.{Types, TypesAs}
 use Rattle.mm_typing.specs.Conversions.{converted}
 use Rattle.mm_unit_typing.specs.declared.here.Here.{Here}
-use Rattle.mm_unit_typing.specs.Scopes.{inside, variable, within, turn_within, behind, behind_start}
-use Rattle.mm_unit_typing.specs.Made.{Made, zero_of, block_of, is_block, nodes_of}
+use Rattle.mm_unit_typing.specs.Types.{Specified, scalar, of_class, kept_type, variable_type}
+use Rattle.mm_unit_typing.specs.Scopes.{inside, declared_at, within, turn_within, behind, behind_start}
+use Rattle.mm_unit_typing.specs.Made.{Made, zero_of, zero_set, begun, block_of, is_block, nodes_of}
 use Rattle.mm_unit_typing.specs.Statements.{Begins as Starts, AllBegin, StartTypes, TestTypes, StepTypes, StmtTypes, StmtsType}
 use Rattle.mm_typing_bounds.specs.Sizes.{size, InitializerIsShort, DeclaratorsAreShort, StartIsShort, MaybeShort, StmtIsShort, StmtsAreShort, levels, all_levels}
 use Rattle.mm_typing_bounds.specs.Bounded.{StmtIsBounded}
@@ -163,22 +166,36 @@ module _ (env : Environment) (n : ℕ) where
   as_within : (vs : List Var) (to : Ty) (e : syntax.Expr) (c : k.Expr) → size e ≤ n → TypesAs (inside env vs) to e c → IsWithin n c
   as_within vs to e c le h = subst (IsWithin n) h.2.2.2 (wider (size e) n (converted env.classes to h.0) le (converted_within env.classes (size e) to h.0 (bounded (inside env vs) e h.0 h.1)))
 
-  starts_bounded : (here : Here) (t : Ty) (vs : List Var) (m l : ℕ) (x : syntax.Declarator) (s : k.Stmt) → InitializerIsShort n x.initializer → Starts env here t vs l x.mark x.name x.initializer s → StmtIsBounded n m s
-  starts_bounded here t vs m l x s r h = by x.initializer r h where
-    by : (i : syntax.Initializer) → InitializerIsShort n i → Starts env here t vs l x.mark x.name i s → StmtIsBounded n m s
-    by syntax.no_initial r h = subst (StmtIsBounded n m) h.2.2 (set_bounded n m l (zero_of t) (zero_within n t))
-    by (syntax.initial e) r h = subst (StmtIsBounded n m) h.2.2.2.2 (set_bounded n m l h.2.2.0 (as_within vs t e h.2.2.0 r (h.0, h.1, h.2.2.1)))
+  -- what gives a local its first value where no initializer stands
+  zero_bounded : (m l : ℕ) (o : Option Ty) (s : k.Stmt) → zero_set l o ≡ Some s → StmtIsBounded n m s
+  zero_bounded m l None s e = cc
+  zero_bounded m l (Some t) s e = subst (StmtIsBounded n m) (filled e) (set_bounded n m l (zero_of t) (zero_within n t)) where
+    filled : {X : Type 0} {x y : X} → Some x ≡ Some y → x ≡ y
+    filled e = cc
+
+  begun_bounded : (m l : ℕ) (mark : Option DeclaratorMark) (y : Specified) (s : k.Stmt) → begun l mark y ≡ Some s → StmtIsBounded n m s
+  begun_bounded m l None (scalar t) s e = zero_bounded m l (kept_type None (scalar t)) s e
+  begun_bounded m l None (of_class c) s e = subst (StmtIsBounded n m) (filled e) (word_bounded n m (k.make l) refl refl refl) where
+    filled : {X : Type 0} {x y : X} → Some x ≡ Some y → x ≡ y
+    filled e = cc
+  begun_bounded m l (Some mark) y s e = zero_bounded m l (kept_type (Some mark) y) s e
+
+  starts_bounded : (here : Here) (w : TypeName) (y : Specified) (vs : List Var) (m l : ℕ) (x : syntax.Declarator) (s : k.Stmt) → InitializerIsShort n x.initializer → Starts env here w y vs l x.mark x.name x.initializer s → StmtIsBounded n m s
+  starts_bounded here w y vs m l x s r h = by x.initializer r h where
+    by : (i : syntax.Initializer) → InitializerIsShort n i → Starts env here w y vs l x.mark x.name i s → StmtIsBounded n m s
+    by syntax.no_initial r h = subst (StmtIsBounded n m) h.2.2.2 (begun_bounded m l x.mark y h.2.0 h.2.1)
+    by (syntax.initial e) r h = subst (StmtIsBounded n m) h.2.2.2.2.2 (set_bounded n m l h.2.2.2.0 (as_within vs h.2.2.0 e h.2.2.2.0 r (h.0, h.1, h.2.2.2.1)))
     by (syntax.arguments es) r h = absurd h
 
-  all_start : (here : Here) (t : Ty) (vs : List Var) (m : ℕ) (locals : List Ty) (xs : List syntax.Declarator) (v : Made (List k.Stmt)) → DeclaratorsAreShort n xs → AllBegin env here t vs locals xs v → AllStmtsBounded n m v.tree
-  all_start here t vs m locals [] v r h = subst (λ (w : Made (List k.Stmt)). AllStmtsBounded n m w.tree) h tt
-  all_start here t vs m locals (x ∷ xs) v r h = subst (λ (w : Made (List k.Stmt)). AllStmtsBounded n m w.tree) h.2.2
-      (starts_bounded here t vs m (length locals) x h.0 r.0 h.1, all_start here t (vs ++ variable x.name.text t (length locals) ∷ []) m (locals ++ t ∷ []) xs h.2.0 r.1 h.2.1)
+  all_start : (here : Here) (w : TypeName) (y : Specified) (vs : List Var) (m : ℕ) (locals : List Ty) (xs : List syntax.Declarator) (v : Made (List k.Stmt)) → DeclaratorsAreShort n xs → AllBegin env here w y vs locals xs v → AllStmtsBounded n m v.tree
+  all_start here w y vs m locals [] v r h = subst (λ (w : Made (List k.Stmt)). AllStmtsBounded n m w.tree) h tt
+  all_start here w y vs m locals (x ∷ xs) v r h = subst (λ (w : Made (List k.Stmt)). AllStmtsBounded n m w.tree) h.2.2
+      (starts_bounded here w y vs m (length locals) x h.0 r.0 h.1, all_start here w y (vs ++ declared_at y x (length locals) ∷ []) m (locals ++ variable_type x.mark y ∷ []) xs h.2.0 r.1 h.2.1)
 
   start_bounded : (here : Here) (vs : List Var) (m : ℕ) (locals : List Ty) (x : syntax.Start) (v : Made (List k.Stmt)) → StartIsShort n x → StartTypes env here vs locals x v → AllStmtsBounded n m v.tree
   start_bounded here vs m locals syntax.no_start v r h = subst (λ (w : Made (List k.Stmt)). AllStmtsBounded n m w.tree) h (word_bounded n m (block_of []) refl refl refl, tt)
   start_bounded here vs m locals (syntax.start_expr e) v r h = subst (λ (w : Made (List k.Stmt)). AllStmtsBounded n m w.tree) h.2 (run_bounded n m h.0.core (expr_within vs e h.0 r h.1), tt)
-  start_bounded here vs m locals (syntax.start_variables x) v r h = all_start here h.0 vs m locals x.names v r h.2
+  start_bounded here vs m locals (syntax.start_variables x) v r h = all_start here x.type_name h.0 vs m locals x.names v r h.2
 
   test_within : (vs : List Var) (c : Option syntax.Expr) (e : k.Expr) → MaybeShort n c → TestTypes env vs c e → IsWithin n e
   test_within vs None e r h = subst (IsWithin n) h (record { deep = omega arith; nested = omega arith; few = omega arith })
@@ -193,7 +210,7 @@ module _ (env : Environment) (n : ℕ) where
     stmt_bounded here vs locals (syntax.block p ss) v r h = stmts_bounded (within here vs) vs locals ss v r h
     stmt_bounded here vs locals (syntax.empty p) v r h = subst (λ (w : Made (List k.Stmt)). AllStmtsBounded n 0 w.tree) h tt
     stmt_bounded here vs locals (syntax.run p e) v r h = subst (λ (w : Made (List k.Stmt)). AllStmtsBounded n 0 w.tree) h.2 (run_bounded n 0 h.0.core (expr_within vs e h.0 r h.1), tt)
-    stmt_bounded here vs locals (syntax.declare p x) v r h = all_start here h.0 vs 0 locals x.names v r h.2
+    stmt_bounded here vs locals (syntax.declare p x) v r h = all_start here x.type_name h.0 vs 0 locals x.names v r h.2
     stmt_bounded here vs locals (syntax.if_then p e s) v r h =
         let x = stmt_bounded (within here vs) vs locals s h.2.0 r.1 h.2.1 in
         subst (λ (w : Made (List k.Stmt)). AllStmtsBounded n (levels s + 1) w.tree) h.2.2
@@ -218,7 +235,7 @@ module _ (env : Environment) (n : ℕ) where
         (do_bounded n h.2.0 (as_within vs ty.Bool e h.2.0 r.1 h.2.1) (levels s) (stmts_of h.0.tree) (list_bounded n (levels s) h.0.tree x), tt)
     stmt_bounded here vs locals (syntax.for_do p start c s u) v r h =
         let g = h.2.1.2.2 in
-        let all = behind_start vs locals start in
+        let all = behind_start env.classes vs locals start in
         let x = stmt_bounded (turn_within here all) all h.0.locals u g.0 r.3 g.1 in
         let loop = subst (λ (w : Made k.Stmt). StmtIsBounded n (levels u + 1) w.tree) g.2
         (for_bounded n h.2.1.0 (test_within all c h.2.1.0 r.1 h.2.1.1) (levels u) h.2.1.2.0 (stmts_of g.0.tree) (step_small all s h.2.1.2.0 r.2 h.2.1.2.1) (list_bounded n (levels u) g.0.tree x)) in
@@ -233,7 +250,7 @@ module _ (env : Environment) (n : ℕ) where
     stmts_bounded here vs locals syntax.no_stmts v r h = subst (λ (w : Made (List k.Stmt)). AllStmtsBounded n 0 w.tree) h tt
     stmts_bounded here vs locals (syntax.stmt_and s ss) v r h =
         let x = stmt_bounded here vs locals s h.0 r.0 h.1 in
-        let y = stmts_bounded here (behind vs locals s) h.0.locals ss h.2.0 r.1 h.2.1 in
+        let y = stmts_bounded here (behind env.classes vs locals s) h.0.locals ss h.2.0 r.1 h.2.1 in
         let l = max (levels s + 1) (all_levels ss) in
         subst (λ (w : Made (List k.Stmt)). AllStmtsBounded n l w.tree) h.2.2
         (both n l (nodes_of s h.0.tree) h.2.0.tree (all_more n (levels s + 1) l (nodes_of s h.0.tree) (omega arith) (nodes_bounded n (levels s) s h.0.tree x)) (all_more n (all_levels ss) l h.2.0.tree (omega arith) y))

@@ -96,12 +96,33 @@ abbrev mutual
 -- ---- units
 
 -- each body is short, and its statements stand in at most so many others
+abbrev pub BodyIsSmall : ℕ → ℕ → Option t.Stmt → Type 0
+BodyIsSmall n most None = Unit {0}
+BodyIsSmall n most (Some body) = StmtIsShort n body × (levels body ≤ most)
+
+-- a constructor is typed as nothing yet
 abbrev pub FunctionIsSmall : ℕ → ℕ → t.Function → Type 0
-FunctionIsSmall n most (t.definition p x body) = StmtIsShort n body × (levels body ≤ most)
+FunctionIsSmall n most (t.definition p x body) = BodyIsSmall n most (Some body)
+FunctionIsSmall n most (t.member_definition p class x body) = BodyIsSmall n most (Some body)
+FunctionIsSmall n most (t.method p virtual_at x body) = BodyIsSmall n most body
 FunctionIsSmall n most other = Unit {0}
+
+abbrev pub ItemIsSmall : ℕ → ℕ → t.Item → Type 0
+ItemIsSmall n most (t.function_item x) = FunctionIsSmall n most x
+ItemIsSmall n most other = Unit {0}
+
+abbrev pub ItemsAreSmall : ℕ → ℕ → List t.Item → Type 0
+ItemsAreSmall n most [] = Unit {0}
+ItemsAreSmall n most (x ∷ xs) = ItemIsSmall n most x × ItemsAreSmall n most xs
+
+abbrev pub ClassIsSmall : ℕ → ℕ → t.Class → Type 0
+ClassIsSmall n most (t.class_declaration p key class) = Unit {0}
+ClassIsSmall n most (t.class_definition p key class bases items text) = ItemsAreSmall n most items
+
+abbrev pub DeclIsSmall : ℕ → ℕ → t.Decl → Type 0
+DeclIsSmall n most (t.function_decl p x) = FunctionIsSmall n most x
+DeclIsSmall n most (t.class_decl p x) = ClassIsSmall n most x
 
 abbrev pub DeclsAreSmall : ℕ → ℕ → List t.Decl → Type 0
 DeclsAreSmall n most [] = Unit {0}
-DeclsAreSmall n most (t.function_decl p x ∷ xs) = FunctionIsSmall n most x
-    × DeclsAreSmall n most xs
-DeclsAreSmall n most (t.class_decl p x ∷ xs) = DeclsAreSmall n most xs
+DeclsAreSmall n most (x ∷ xs) = DeclIsSmall n most x × DeclsAreSmall n most xs

@@ -1,17 +1,16 @@
 -- A valid program stays valid where only defined functions may be called, if all that are called are defined.
-use Rattle.std.proofs.Common.{◌≡◌, ℕ, List, [], ◌++◌, refl, sym, ap, ◌∙◌, arith}
+use Rattle.std.proofs.Common.{◌≡◌, ℕ, List, ◌++◌, refl, sym, ap, ◌∙◌, arith}
 use Rattle.std.specs.Prelude.{Bool, true, false, IsTrue, length, Option, Some, None, slice_get}
 use Rattle.mm_classes.specs.declared.class.Ty.{Ty}
 use Rattle.mm_classes.specs.Lists.{Has}
 use Rattle.mm_classes.specs.Classes.{Class}
 use Rattle.mm_core.specs.Heads.{is_open}
 use Rattle.mm_core.specs.Tree.{Expr, int, unsigned, bool, null, local, set_local, field, set_field, not_null, move, convert, binary, negation, both, either, choose, call, virtual_call, open_call, builtin, new, step_local, step_field, compound, Exprs, no_exprs, expr_and, Stmt, block, run, if_else, while_do, do_while, for_do, break, continue, return_nothing, return, make, Stmts, no_stmts, stmt_and, Function, Program}
-use Rattle.mm_core.specs.Units.{Checked}
 use Rattle.mm_core.specs.Valid.{Around, type_of, types_of, IsValid, AreValid, IsTest, IsValidStmt, AreValidStmts, sets}
 use Rattle.mm_core.specs.ValidProgram.{around, IsBody, BodyFits, numbers_below, IsValidFunction, IsValidProgram}
 use Rattle.mm_typing_valid.specs.Called.{CallsOnly, AllCallOnly, StmtCallsOnly, StmtsCallOnly, CalledAreDefined, TypedUnitIsScalar}
 use Rattle.mm_typing_valid.proofs.Functions.{IsFine, no_virtual}
-use Rattle.mm_typing_valid.proofs.Units.{unit_fine, typed_unit_is_valid}
+use Rattle.mm_typing_valid.proofs.Units.{unit_bare, scalar_unit_is_valid}
 
 module _ (classes : List Class) (functions : List Function) (before after : Function → Bool) (locals : List Ty) (arguments : ℕ) where
   abbrev a : Around
@@ -153,12 +152,13 @@ no_opens : (f : Function) → IsFine f → is_open f ≡ false
 no_opens f ok = no_virtual f.params ok.params
 
 pub typed_unit_is_scalar : TypedUnitIsScalar
-typed_unit_is_scalar u c r h called main =
-    let none : c.program.classes ≡ [] = ap (λ (d : Checked). d.program.classes) (sym h.2) in
-    let fine = unit_fine u c r h in
+typed_unit_is_scalar u c bare r h called main =
+    let b = unit_bare u c bare r h in
+    let none = b.classes in
+    let fine = b.fine in
     record {
       merged = record {
-        valid = program_stays c.program called (typed_unit_is_valid u c r h);
+        valid = program_stays c.program called (scalar_unit_is_valid u c bare r h);
         opens = λ f m e. absurd (let z : true ≡ false = sym e ∙ no_opens f (fine.fine f m) in cc);
         virtuals = λ k n m f done has. absurd (let z : ⊥ = (let l = done.0 in let y : length c.program.classes ≡ 0 = ap length none in omega arith) in z);
         main = main;

@@ -1,6 +1,6 @@
 -- Lists of functions, and functions that are the same but for their bodies.
 use Rattle.std.proofs.Common.{◌≡◌, ℕ, zero, suc, ◌+◌, ◌<◌, ◌≤◌, List, [], ◌∷◌, ◌++◌, length, map, refl, sym, subst, ap, ◌∙◌, inl, inr, arith}
-use Rattle.std.specs.Prelude.{Bool, true, false, not, ◌&&◌, ◌||◌, ◌⊎◌, IsTrue, if◌then◌else◌, Some, is_some, slice_get, get_or, AllPairs}
+use Rattle.std.specs.Prelude.{Bool, true, false, not, ◌&&◌, ◌||◌, ◌⊎◌, IsTrue, if◌then◌else◌, Some, None, is_some, slice_get, get_or, AllPairs}
 use Rattle.std.specs.List.{list_any, position_or_len}
 use Rattle.std.specs.Str.{bytes_eq}
 use Rattle.std.proofs.lemmas.Slice.Eq.{bytes_eq-Decides}
@@ -18,19 +18,19 @@ use Rattle.mm_classes.proofs.Lists.{Has-append}
 use Rattle.mm_core.specs.declared.part.CoreParam.{CoreParam}
 use Rattle.mm_core.specs.Heads.{type_code, same_type, same_types, types_of_params, argument_types}
 use Rattle.mm_core.specs.Tree as k
-use Rattle.mm_core.specs.Valid.{Around, is_arithmetic}
-use Rattle.mm_core.specs.ValidProgram.{AreApart}
+use Rattle.mm_core.specs.Valid.{Around}
+use Rattle.mm_core.specs.ValidProgram.{IsType, IsVariable, AreApart}
 use Rattle.mm_core.proofs.Entering.{slice-Has}
 use Rattle.mm_core.proofs.Returning.{same_is}
 use Rattle.mm_scopes.specs.declared.head.FnHead.{FnHead}
 use Rattle.mm_syntax.specs.declared.name.Name.{Name}
-use Rattle.mm_unit_typing.specs.Declarators.{is_reserved}
-use Rattle.mm_unit_typing.specs.Functions.{Heading, is_function, number_of, known, agrees, may_declare, core_param, declared_function, with_function, defined_with, with_body, never, head_of, heads_from, seen}
-use Rattle.mm_typing_valid.specs.Seen.{IsPlain, IsHeadOf, IsOutside}
-use Rattle.mm_typing_valid.specs.Statements.{IsAround}
-use Rattle.mm_typing_valid.proofs.Conversions.{arithmetic_plain, plain_typed}
+use Rattle.mm_unit_typing.specs.Types.{is_reserved}
+use Rattle.mm_unit_typing.specs.Heads.{Heading}
+use Rattle.mm_unit_typing.specs.Functions.{Declarations, is_function, function_number, known, agrees, may_declare, core_param, declared_function, with_function, defined_with, with_body, never, head_of, heads_from, seen}
+use Rattle.mm_typing_valid.specs.Seen.{IsHeadOf, IsOutside, AreOutside}
+use Rattle.mm_typing_valid.specs.Statements.{IsAround, AreVariables}
+use Rattle.mm_typing_valid.proofs.Declarators.{type_typed}
 use Rattle.mm_typing_valid.proofs.NoClasses.{no_classes, up_none, found_none}
-use Rattle.mm_typing_valid.proofs.Variables.{AllArithmetic}
 use Rattle.mm_typing_valid.proofs.Heads.{params_types, params_count, params_are}
 
 -- ---- functions but for their bodies
@@ -68,22 +68,22 @@ at_left (x ∷ fs) gs (suc i) f e = at_left fs gs i f e
 pub extends_more : (fs gs : List k.Function) → Extends fs (fs ++ gs)
 extends_more fs gs i f e = (f, at_left fs gs i f e, same f)
 
-pub extends_body : (fs : List k.Function) (n : ℕ) (locals : List Ty) (b : k.Stmt) → Extends fs (with_body fs n locals b)
-extends_body [] n locals b i f e = cc
-extends_body (x ∷ fs) zero locals b zero f e = (defined_with locals b x, refl, subst (λ g. SameHead g (defined_with locals b x)) (inside e) (record { name = refl; params = refl; result = refl; member = refl })) where
+pub extends_body : (fs : List k.Function) (n : ℕ) (c : Bool) (locals : List Ty) (b : k.Stmt) → Extends fs (with_body fs n c locals b)
+extends_body [] n c locals b i f e = cc
+extends_body (x ∷ fs) zero c locals b zero f e = (defined_with c locals b x, refl, subst (λ g. SameHead g (defined_with c locals b x)) (inside e) (record { name = refl; params = refl; result = refl; member = refl })) where
   inside : {X : Type 0} {x y : X} → Some x ≡ Some y → x ≡ y
   inside e = cc
-extends_body (x ∷ fs) zero locals b (suc i) f e = (f, e, same f)
-extends_body (x ∷ fs) (suc n) locals b zero f e = (f, e, same f)
-extends_body (x ∷ fs) (suc n) locals b (suc i) f e = extends_body fs n locals b i f e
+extends_body (x ∷ fs) zero c locals b (suc i) f e = (f, e, same f)
+extends_body (x ∷ fs) (suc n) c locals b zero f e = (f, e, same f)
+extends_body (x ∷ fs) (suc n) c locals b (suc i) f e = extends_body fs n c locals b i f e
 
 -- a function of the list with a body is one of the list, or that with its new body
-pub from_body : (fs : List k.Function) (n : ℕ) (locals : List Ty) (b : k.Stmt) (f : k.Function) → Has (with_body fs n locals b) f → Has fs f ⊎ ((g : k.Function) × (slice_get fs n ≡ Some g) × (defined_with locals b g ≡ f))
-from_body [] n locals b f m = elim m [ ]
-from_body (x ∷ fs) zero locals b f (first e) = inr (x, refl, e)
-from_body (x ∷ fs) zero locals b f (later m) = inl (later m)
-from_body (x ∷ fs) (suc n) locals b f (first e) = inl (first e)
-from_body (x ∷ fs) (suc n) locals b f (later m) = elim (from_body fs n locals b f m) [ inl h ↦ inl (later h) | inr h ↦ inr h ]
+pub from_body : (fs : List k.Function) (n : ℕ) (c : Bool) (locals : List Ty) (b : k.Stmt) (f : k.Function) → Has (with_body fs n c locals b) f → Has fs f ⊎ ((g : k.Function) × (slice_get fs n ≡ Some g) × (defined_with c locals b g ≡ f))
+from_body [] n c locals b f m = elim m [ ]
+from_body (x ∷ fs) zero c locals b f (first e) = inr (x, refl, e)
+from_body (x ∷ fs) zero c locals b f (later m) = inl (later m)
+from_body (x ∷ fs) (suc n) c locals b f (first e) = inl (first e)
+from_body (x ∷ fs) (suc n) c locals b f (later m) = elim (from_body fs n c locals b f m) [ inl h ↦ inl (later h) | inr h ↦ inr h ]
 
 pub at_number : (p : k.Function → Bool) (fs : List k.Function) → list_any p fs ≡ true → (f : k.Function) × (slice_get fs (position_or_len p fs) ≡ Some f) × (p f ≡ true)
 at_number p [] e = cc
@@ -121,7 +121,23 @@ any_false p (x ∷ fs) f e m = elim m [
 
 -- ---- heads
 
-is_this : (name : Name) (h : Heading) → is_function name.text h.params (declared_function name h) ≡ true
+-- the function that a head declares outside classes, and the functions with it
+abbrev pub new_function : Name → Heading → k.Function
+new_function name h = declared_function false name.text name.place h.result h.params
+
+abbrev pub with_head : List k.Function → Name → Heading → List k.Function
+with_head fs name h = if is_some (known fs name.text h.params) then fs else fs ++ new_function name h ∷ []
+
+pub functions_with : (d : Declarations) (name : Name) (h : Heading) → (with_function d name h).functions ≡ with_head d.functions name h
+functions_with d name h = by (is_some (known d.functions name.text h.params)) where
+  more : Declarations
+  more = record d { functions = d.functions ++ new_function name h ∷ [] }
+
+  by : (b : Bool) → (if b then d else more).functions ≡ (if b then d.functions else more.functions)
+  by true = refl
+  by false = refl
+
+is_this : (name : Name) (h : Heading) → is_function name.text h.params (new_function name h) ≡ true
 is_this name h = both (bytes_eq name.text name.text) (same_types (types_of_params (map core_param h.params)) h.params)
     ((bytes_eq-Decides name.text name.text).1 refl)
     ((bytes_eq-Decides (map type_code (types_of_params (map core_param h.params))) (map type_code h.params)).1 (ap (map type_code) (params_types h.params)))
@@ -130,15 +146,15 @@ is_this name h = both (bytes_eq name.text name.text) (same_types (types_of_param
     both b c e f = rw (e, f) refl
 
 -- after a declaration the function is there
-pub is_there : (fs : List k.Function) (name : Name) (h : Heading) → list_any (is_function name.text h.params) (with_function fs name h) ≡ true
+pub is_there : (fs : List k.Function) (name : Name) (h : Heading) → list_any (is_function name.text h.params) (with_head fs name h) ≡ true
 is_there fs name h = by (is_some (known fs name.text h.params)) (sym (some_known (is_function name.text h.params) fs)) where
-  by : (b : Bool) → list_any (is_function name.text h.params) fs ≡ b → list_any (is_function name.text h.params) (if b then fs else fs ++ declared_function name h ∷ []) ≡ true
+  by : (b : Bool) → list_any (is_function name.text h.params) fs ≡ b → list_any (is_function name.text h.params) (if b then fs else fs ++ new_function name h ∷ []) ≡ true
   by true e = e
-  by false e = list_any-append (is_function name.text h.params) fs (declared_function name h ∷ []) ∙ rw (e, is_this name h) refl
+  by false e = list_any-append (is_function name.text h.params) fs (new_function name h ∷ []) ∙ rw (e, is_this name h) refl
 
 -- a function that is declared again has the same result
-pub same_result : (fs : List k.Function) (name : List ℕ) (h : Heading) (d : Bool) (f : k.Function) → may_declare fs name h d ≡ true → known fs name h.params ≡ Some f → f.result ≡ h.result
-same_result fs name h d f e is = same_is f.result h.result (by (same_type f.result h.result) (not (d && f.defined)) (sym (ap (agrees h.result d) is) ∙ e)) where
+pub same_result : (fs : List k.Function) (name : List ℕ) (t : Ty) (ts : List Ty) (d : Bool) (f : k.Function) → may_declare fs name (Some t) ts d ≡ true → known fs name ts ≡ Some f → f.result ≡ t
+same_result fs name t ts d f e is = sym (same_is t f.result (by (same_type t f.result) (not (d && f.defined)) (sym (ap (agrees (Some t) d) is) ∙ e))) where
   by : (b c : Bool) → (b && c) ≡ true → b ≡ true
   by true c n = refl
   by false c n = cc
@@ -152,25 +168,25 @@ heads_are n (x ∷ fs) h (later m) =
     let r = heads_are (n + 1) fs h m in
     (suc r.0, r.1, r.2, ap (λ j. head_of j r.1) (let z : n + suc r.0 ≡ n + 1 + r.0 = omega arith in z) ∙ r.3)
 
--- What is known of a function of a typed unit, its body aside.
+-- What is known of a function of a typed unit without classes, its body aside.
 pub record IsFine (f : k.Function) : Type 0 where
   pub outside : f.member ≡ false
   pub apart : f.in_class ≡ false
-  pub plain : IsPlain f.result
-  pub params : (q : CoreParam) → Has f.params q → (is_arithmetic q.ty ≡ true) × (q.is_virtual ≡ false)
+  pub result : IsType [] f.result
+  pub params : (q : CoreParam) → Has f.params q → IsVariable [] q.ty × (q.is_virtual ≡ false)
   pub few : length f.params ≤ 32
-  pub locals : AllArithmetic f.locals
+  pub locals : AreVariables [] f.locals
   pub yours : is_reserved f.name ≡ false
 
-pub no_virtual : (qs : List CoreParam) → ((q : CoreParam) → Has qs q → (is_arithmetic q.ty ≡ true) × (q.is_virtual ≡ false)) → list_any (λ (q : CoreParam). q.is_virtual) qs ≡ false
+pub no_virtual : (qs : List CoreParam) → ((q : CoreParam) → Has qs q → IsVariable [] q.ty × (q.is_virtual ≡ false)) → list_any (λ (q : CoreParam). q.is_virtual) qs ≡ false
 no_virtual [] f = refl
 no_virtual (q ∷ qs) f = rw ((f q (first refl)).1, no_virtual qs (λ r m. f r (later m))) refl
 
-params_typed : (n : ℕ) (qs : List CoreParam) → ((q : CoreParam) → Has qs q → (is_arithmetic q.ty ≡ true) × (q.is_virtual ≡ false)) → (t : Ty) → Has (types_of_params qs) t → IsTyped n t
-params_typed n [] f t m = elim m [ ]
-params_typed n (q ∷ qs) f t m = elim m [
-  | first e ↦ subst (IsTyped n) e (plain_typed n q.ty (arithmetic_plain q.ty (f q (first refl)).0))
-  | later k ↦ params_typed n qs (λ r m. f r (later m)) t k
+params_typed : (qs : List CoreParam) → ((q : CoreParam) → Has qs q → IsVariable [] q.ty × (q.is_virtual ≡ false)) → (t : Ty) → Has (types_of_params qs) t → IsTyped 0 t
+params_typed [] f t m = elim m [ ]
+params_typed (q ∷ qs) f t m = elim m [
+  | first e ↦ subst (IsTyped 0) e (type_typed [] q.ty (f q (first refl)).0.0)
+  | later j ↦ params_typed qs (λ r m. f r (later m)) t j
 ]
 
 never_any : (ts : List Ty) → list_any (λ v. v) (never ts) ≡ false
@@ -194,8 +210,8 @@ module _ (a : Around) (fs : List k.Function) (none : a.classes ≡ []) (call : (
         opened = ap (list_any (λ (q : CoreParam). q.is_virtual)) (sym g.2.params) ∙ no_virtual r.1.params ok.params ∙ sym (never_any (types_of_params r.1.params));
         params = ap types_of_params (sym g.2.params);
         result = sym g.2.result;
-        typed = plain_typed (length a.classes) r.1.result ok.plain;
-        params_typed = params_typed (length a.classes) r.1.params ok.params;
+        typed = subst (λ g. IsTyped (length g) r.1.result) (sym none) (type_typed [] r.1.result ok.result);
+        params_typed = λ t m. subst (λ g. IsTyped (length g) t) (sym none) (params_typed r.1.params ok.params t m);
       })
 
   seen_outside : (h : FnHead) → Has (heads_from 0 fs) h → IsOutside a h
@@ -209,60 +225,60 @@ module _ (a : Around) (fs : List k.Function) (none : a.classes ≡ []) (call : (
   no_class : (c : ℕ) → IsComplete a.classes c → ⊥
   no_class c h = let l = h.0 in let e : length a.classes ≡ 0 = ap length none in let z : ⊥ = omega arith in z
 
-  -- what is seen behind the declarations of functions, in a unit without classes
-  pub seen_around : IsAround a (seen fs)
-  seen_around = record {
-    seen = λ known. record {
-      classes = sym none;
-      list = subst IsClassList (sym none) no_classes;
-      up = λ c b. subst (λ g. IsUpOf (up_of g c b) g c b) (sym none) (up_none c b);
-      found = λ c x. subst (λ g. Finds g c x (found_of g c x)) (sym none) (found_none c x);
-      fields = λ c m h. absurd (let z : Has (members_of [] c) m = subst (λ g. Has (members_of g c) m) none h in elim z [ ]);
-      this_in = λ c e. cc;
-      vars = λ v m. elim m [ ];
-      functions = seen_heads;
-      methods = λ h d x m done e. absurd (no_class d done);
-    };
-    outside = λ x h m e. seen_outside h m;
+  -- what is seen behind declarations without classes, outside all classes
+  pub seen_around : (d : Declarations) → d.classes ≡ [] → d.functions ≡ fs → IsAround a (seen d None)
+  seen_around d bare is known this = record {
+    classes = bare ∙ sym none;
+    list = subst IsClassList (sym none) no_classes;
+    up = λ c b. subst (λ g. IsUpOf (up_of g c b) g c b) (sym none) (up_none c b);
+    found = λ c x. subst (λ g. Finds g c x (found_of g c x)) (sym none) (found_none c x);
+    fields = λ c m h. absurd (let z : Has (members_of [] c) m = subst (λ g. Has (members_of g c) m) none h in elim z [ ]);
+    this_in = λ c e. cc;
+    vars = λ v m. elim m [ ];
+    functions = λ h m. seen_heads h (subst (λ gs. Has (heads_from 0 gs) h) is m);
+    methods = λ h e x m done n. absurd (no_class e done);
   }
+
+  pub names_outside : (d : Declarations) → d.functions ≡ fs → (x : List ℕ) → AreOutside a (seen d None) x
+  names_outside d is x h m e = seen_outside h (subst (λ gs. Has (heads_from 0 gs) h) is m)
 
 -- ---- functions that are declared
 
-pub declared_fine : (name : Name) (h : Heading) → IsPlain h.result → AllArithmetic h.params → length h.params ≤ 32 → is_reserved name.text ≡ false → IsFine (declared_function name h)
+pub declared_fine : (name : Name) (h : Heading) → IsType [] h.result → AreVariables [] h.params → length h.params ≤ 32 → is_reserved name.text ≡ false → IsFine (new_function name h)
 declared_fine name h p f l y = record {
   outside = refl;
   apart = refl;
-  plain = p;
-  params = λ q m. params_are h.params q f m;
+  result = p;
+  params = λ q m. params_are [] h.params q f m;
   few = subst (λ n. n ≤ 32) (sym (params_count h.params)) l;
   locals = λ t m. elim m [ ];
   yours = y;
 }
 
 -- a function that is declared is one of those before, or new
-pub from_declared : (fs : List k.Function) (name : Name) (h : Heading) (f : k.Function) → Has (with_function fs name h) f → Has fs f ⊎ (declared_function name h ≡ f)
+pub from_declared : (fs : List k.Function) (name : Name) (h : Heading) (f : k.Function) → Has (with_head fs name h) f → Has fs f ⊎ (new_function name h ≡ f)
 from_declared fs name h f m = by (is_some (known fs name.text h.params)) m where
-  by : (b : Bool) → Has (if b then fs else fs ++ declared_function name h ∷ []) f → Has fs f ⊎ (declared_function name h ≡ f)
+  by : (b : Bool) → Has (if b then fs else fs ++ new_function name h ∷ []) f → Has fs f ⊎ (new_function name h ≡ f)
   by true m = inl m
-  by false m = elim (Has-append fs (declared_function name h ∷ []) m) [ inl k ↦ inl k | inr k ↦ elim k [ first e ↦ inr e | later n ↦ elim n [ ] ] ]
+  by false m = elim (Has-append fs (new_function name h ∷ []) m) [ inl k ↦ inl k | inr k ↦ elim k [ first e ↦ inr e | later n ↦ elim n [ ] ] ]
 
 -- the function that is declared so afterwards has the result that the head says
-pub result_known : (fs : List k.Function) (name : Name) (h : Heading) (d : Bool) (g : k.Function) → may_declare fs name.text h d ≡ true → known (with_function fs name h) name.text h.params ≡ Some g → is_function name.text h.params g ≡ true → g.result ≡ h.result
+pub result_known : (fs : List k.Function) (name : Name) (h : Heading) (d : Bool) (g : k.Function) → may_declare fs name.text (Some h.result) h.params d ≡ true → known (with_head fs name h) name.text h.params ≡ Some g → is_function name.text h.params g ≡ true → g.result ≡ h.result
 result_known fs name h d g e is that = by (is_some (known fs name.text h.params)) (sym (some_known (is_function name.text h.params) fs)) is where
-  by : (b : Bool) → list_any (is_function name.text h.params) fs ≡ b → known (if b then fs else fs ++ declared_function name h ∷ []) name.text h.params ≡ Some g → g.result ≡ h.result
-  by true n is = same_result fs name.text h d g e is
-  by false n is = elim (Has-append fs (declared_function name h ∷ []) (slice-Has (fs ++ declared_function name h ∷ []) (number_of (fs ++ declared_function name h ∷ []) name.text h.params) g is)) [
+  by : (b : Bool) → list_any (is_function name.text h.params) fs ≡ b → known (if b then fs else fs ++ new_function name h ∷ []) name.text h.params ≡ Some g → g.result ≡ h.result
+  by true n is = same_result fs name.text h.result h.params d g e is
+  by false n is = elim (Has-append fs (new_function name h ∷ []) (slice-Has (fs ++ new_function name h ∷ []) (function_number (fs ++ new_function name h ∷ []) name.text h.params) g is)) [
     | inl m ↦ absurd (let z : true ≡ false = sym that ∙ any_false (is_function name.text h.params) fs g n m in cc)
     | inr m ↦ elim m [ first is_new ↦ ap (λ (f : k.Function). f.result) (sym is_new) | later n ↦ elim n [ ] ]
   ]
 
-pub extends_declared : (fs : List k.Function) (name : Name) (h : Heading) → Extends fs (with_function fs name h)
+pub extends_declared : (fs : List k.Function) (name : Name) (h : Heading) → Extends fs (with_head fs name h)
 extends_declared fs name h = by (is_some (known fs name.text h.params)) where
-  by : (b : Bool) → Extends fs (if b then fs else fs ++ declared_function name h ∷ [])
+  by : (b : Bool) → Extends fs (if b then fs else fs ++ new_function name h ∷ [])
   by true = extends_itself fs
-  by false = extends_more fs (declared_function name h ∷ [])
+  by false = extends_more fs (new_function name h ∷ [])
 
-other_than : (fs : List k.Function) (name : Name) (h : Heading) (f : k.Function) → is_function name.text h.params f ≡ false → AreApart f (declared_function name h)
+other_than : (fs : List k.Function) (name : Name) (h : Heading) (f : k.Function) → is_function name.text h.params f ≡ false → AreApart f (new_function name h)
 other_than fs name h f e n c = absurd (let z : is_function name.text h.params f ≡ true = both (bytes_eq f.name name.text) (same_types (types_of_params f.params) h.params)
     ((bytes_eq-Decides f.name name.text).1 n)
     ((bytes_eq-Decides (map type_code (types_of_params f.params)) (map type_code h.params)).1 (c ∙ ap (map type_code) (params_types h.params))) in let y : true ≡ false = sym z ∙ e in cc)
@@ -270,28 +286,28 @@ other_than fs name h f e n c = absurd (let z : is_function name.text h.params f 
     both : (b c : Bool) → b ≡ true → c ≡ true → (b && c) ≡ true
     both b c e f = rw (e, f) refl
 
-pub declared_apart : (fs : List k.Function) (name : Name) (h : Heading) → AllPairs AreApart fs → AllPairs AreApart (with_function fs name h)
+pub declared_apart : (fs : List k.Function) (name : Name) (h : Heading) → AllPairs AreApart fs → AllPairs AreApart (with_head fs name h)
 declared_apart fs name h a = by (is_some (known fs name.text h.params)) (sym (some_known (is_function name.text h.params) fs)) where
-  by : (b : Bool) → list_any (is_function name.text h.params) fs ≡ b → AllPairs AreApart (if b then fs else fs ++ declared_function name h ∷ [])
+  by : (b : Bool) → list_any (is_function name.text h.params) fs ≡ b → AllPairs AreApart (if b then fs else fs ++ new_function name h ∷ [])
   by true e = a
-  by false e = all_pairs_push AreApart fs (declared_function name h) a (λ i d l. other_than fs name h (get_or fs i d) (any_false (is_function name.text h.params) fs (get_or fs i d) e (slice-Has fs i (get_or fs i d) (slice_get-get_or fs i d l))))
+  by false e = all_pairs_push AreApart fs (new_function name h) a (λ i d l. other_than fs name h (get_or fs i d) (any_false (is_function name.text h.params) fs (get_or fs i d) e (slice-Has fs i (get_or fs i d) (slice_get-get_or fs i d l))))
 
-body_length : (fs : List k.Function) (n : ℕ) (locals : List Ty) (b : k.Stmt) → length (with_body fs n locals b) ≡ length fs
-body_length [] n locals b = refl
-body_length (f ∷ fs) zero locals b = refl
-body_length (f ∷ fs) (suc n) locals b = ap suc (body_length fs n locals b)
+body_length : (fs : List k.Function) (n : ℕ) (c : Bool) (locals : List Ty) (b : k.Stmt) → length (with_body fs n c locals b) ≡ length fs
+body_length [] n c locals b = refl
+body_length (f ∷ fs) zero c locals b = refl
+body_length (f ∷ fs) (suc n) c locals b = ap suc (body_length fs n c locals b)
 
 -- names and parameters are as before
-body_head : (fs : List k.Function) (n : ℕ) (locals : List Ty) (b : k.Stmt) (i : ℕ) (d : k.Function) → i < length fs → SameHead (get_or fs i d) (get_or (with_body fs n locals b) i d)
-body_head fs n locals b i d l =
-    let r = extends_body fs n locals b i (get_or fs i d) (slice_get-get_or fs i d l) in
-    subst (SameHead (get_or fs i d)) (sym (get_or_from_slice_get (with_body fs n locals b) i r.0 d r.1)) r.2
+body_head : (fs : List k.Function) (n : ℕ) (c : Bool) (locals : List Ty) (b : k.Stmt) (i : ℕ) (d : k.Function) → i < length fs → SameHead (get_or fs i d) (get_or (with_body fs n c locals b) i d)
+body_head fs n c locals b i d l =
+    let r = extends_body fs n c locals b i (get_or fs i d) (slice_get-get_or fs i d l) in
+    subst (SameHead (get_or fs i d)) (sym (get_or_from_slice_get (with_body fs n c locals b) i r.0 d r.1)) r.2
 
 apart_like : (f g h j : k.Function) → SameHead f g → SameHead h j → AreApart f h → AreApart g j
 apart_like f g h j a b p n c = p (a.name ∙ n ∙ sym b.name) (ap (λ qs. map type_code (types_of_params qs)) a.params ∙ c ∙ ap (λ qs. map type_code (types_of_params qs)) (sym b.params))
 
-pub body_apart : (fs : List k.Function) (n : ℕ) (locals : List Ty) (b : k.Stmt) → AllPairs AreApart fs → AllPairs AreApart (with_body fs n locals b)
-body_apart fs n locals b a i j d l m =
-    let m' : j < length fs = subst (λ k. j < k) (body_length fs n locals b) m in
+pub body_apart : (fs : List k.Function) (n : ℕ) (c : Bool) (locals : List Ty) (b : k.Stmt) → AllPairs AreApart fs → AllPairs AreApart (with_body fs n c locals b)
+body_apart fs n c locals b a i j d l m =
+    let m' : j < length fs = subst (λ k. j < k) (body_length fs n c locals b) m in
     let l' : i < length fs = omega arith in
-    apart_like (get_or fs i d) (get_or (with_body fs n locals b) i d) (get_or fs j d) (get_or (with_body fs n locals b) j d) (body_head fs n locals b i d l') (body_head fs n locals b j d m') (a i j d l m')
+    apart_like (get_or fs i d) (get_or (with_body fs n c locals b) i d) (get_or fs j d) (get_or (with_body fs n c locals b) j d) (body_head fs n c locals b i d l') (body_head fs n c locals b j d m') (a i j d l m')

@@ -14,3 +14,4 @@ pub mod Heads
 pub mod Functions
 pub mod Units
 pub mod Called
+pub mod Declarators

@@ -1,78 +1,76 @@
 -- What statements are typed as is valid.
-use Rattle.std.proofs.Common.{◌≡◌, ◌≢◌, ℕ, List, [], ◌∷◌, ◌++◌, length, refl, sym, subst, ◌∙◌, arith}
+use Rattle.std.proofs.Common.{◌≡◌, ℕ, ◌≤◌, List, [], ◌∷◌, ◌++◌, length, refl, sym, subst, ◌∙◌, inl, inr, arith}
 use Rattle.std.specs.Prelude.{Bool, true, false, IsTrue, if◌then◌else◌, Option, Some, None}
 use Rattle.mm_classes.specs.declared.class.Ty.{Ty}
 use Rattle.mm_classes.specs.declared.class.Ty.TheVariants as ty
-use Rattle.mm_classes.specs.Lists.{first, later}
-use Rattle.mm_classes.specs.Classes.{IsTyped}
-use Rattle.mm_core.specs.Heads.{is_reference, type_at}
+use Rattle.mm_classes.specs.Lists.{Has, first, later}
+use Rattle.mm_classes.specs.Classes.{IsComplete, IsTyped}
+use Rattle.mm_classes.proofs.Answering.{complete_below}
+use Rattle.mm_core.specs.Heads.{is_reference}
 use Rattle.mm_core.specs.Tree as k
 use Rattle.mm_core.specs.View.{stmts_of}
-use Rattle.mm_core.specs.Valid.{Around, is_arithmetic, type_of, IsValid, Suits, IsTest, sets, AreValidStmts, is_step}
+use Rattle.mm_core.specs.Valid.{Around, type_of, IsValid, Suits, IsTest, sets, IsValidStmt, AreValidStmts, is_step}
+use Rattle.mm_core.specs.ValidProgram.{IsVariable}
 use Rattle.mm_scopes.specs.declared.head.Var.{Var}
 use Rattle.mm_scopes.specs.Environment.{Environment}
+use Rattle.mm_syntax.specs.declared.expr.TypeName.{TypeName}
+use Rattle.mm_syntax.specs.declared.name.Name.{Name}
+use Rattle.mm_syntax.specs.declared.name.DeclaratorMark.{DeclaratorMark}
 use Rattle.mm_syntax.specs.Tree as syntax
 use Rattle.mm_typing.specs.Typed.{Typed}
 use Rattle.mm_typing.specs.Typing.{Types, TypesAs}
 use Rattle.mm_unit_typing.specs.declared.here.Here.{Here}
-use Rattle.mm_unit_typing.specs.Scopes.{inside, variable, within, turn_within, behind, behind_start}
-use Rattle.mm_unit_typing.specs.Made.{Made, zero_of, block_of, is_block, nodes_of}
+use Rattle.mm_unit_typing.specs.Types.{Specified, variable_type, is_whole}
+use Rattle.mm_unit_typing.specs.Scopes.{inside, declared_at, within, turn_within, behind, behind_start}
+use Rattle.mm_unit_typing.specs.Made.{Made, zero_of, begun, block_of, is_block, nodes_of}
 use Rattle.mm_unit_typing.specs.Statements.{Begins as Starts, AllBegin, StartTypes, TestTypes, StepTypes, StmtTypes, StmtsType}
 use Rattle.mm_typing_valid.specs.Numbers.{IsInRange, InitializerInRange, DeclaratorsInRange, StartInRange, MaybeInRange, StmtInRange, StmtsInRange}
-use Rattle.mm_typing_valid.specs.Seen.{IsPlain, IsVarOf, IsVarIn, AreOutside, IsSeen}
+use Rattle.mm_typing_valid.specs.Seen.{IsVarIn, AreOutside, IsSeen}
 use Rattle.mm_typing_valid.specs.Expressions.{IsOf}
-use Rattle.mm_typing_valid.specs.Names.{NamesOnly}
-use Rattle.mm_typing_valid.specs.Statements.{IsAround, IsValidAt, AreValidAt, Begins, TypedStmtIsValid, TypedStmtExtends}
-use Rattle.mm_typing_valid.proofs.Conversions.{no_void, no_reference, arithmetic_plain, plain_typed, void_is as void_here, suits, suits_exactly}
-use Rattle.mm_typing_valid.proofs.Names.{names_only}
+use Rattle.mm_typing_valid.specs.Names.{NamesOnly, InitializerNamesOnly, DeclaratorsNameOnly, StartNamesOnly, MaybeNamesOnly, StmtNamesOnly, StmtsNameOnly}
+use Rattle.mm_typing_valid.specs.Statements.{Begins, AreVarsIn, ThisIsSet, IsAround, TypedStmtIsValid, TypedStmtExtends}
+use Rattle.mm_typing_valid.proofs.Conversions.{void_is as void_here, suits, suits_exactly}
 use Rattle.mm_typing_valid.proofs.Expressions.{typed_valid, typed_as_is_valid}
-use Rattle.mm_typing_valid.proofs.Locals.{further, at_end, scalar_plain, holds_arithmetic, begins_extend, stmt_extends, stmts_extend, AllVars, may_begin, var_at, with_vars, vars_behind, vars_started}
+use Rattle.mm_typing_valid.proofs.Declarators.{type_typed, IsSpecified, specified_is, value_is, kept_is, Makes, SetsZero, begun_is}
+use Rattle.mm_typing_valid.proofs.Locals.{further, at_end, no_shorter, after, this_after, begins_extend, start_extends, stmt_extends, stmts_extend, may_begin, var_at, vars_after, with_vars, vars_behind, vars_started}
 
-zero_valid : (a : Around) (known : List ℕ) (t : Ty) → is_arithmetic t ≡ true → IsOf a known (zero_of t) t
-zero_valid a known ty.Void e = cc
-zero_valid a known ty.Bool e = (refl, tt)
-zero_valid a known ty.Int e = (refl, refl)
-zero_valid a known ty.Unsigned e = (refl, omega arith)
-zero_valid a known (ty.Ptr c) e = cc
-zero_valid a known (ty.Ref c) e = cc
+zero_valid : (a : Around) (known : List ℕ) (t : Ty) → IsVariable a.classes t → is_reference t ≡ false → IsOf a known (zero_of t) t
+zero_valid a known ty.Void v e = absurd (v.1 refl)
+zero_valid a known ty.Bool v e = (refl, tt)
+zero_valid a known ty.Int v e = (refl, refl)
+zero_valid a known ty.Unsigned v e = (refl, omega arith)
+zero_valid a known (ty.Ptr c) v e = (refl, v.0)
+zero_valid a known (ty.Ref c) v e = cc
 
 module _ (a : Around) (result : Ty) where
-  pub stmts_valid : (l : Bool) (ss : List k.Stmt) (known : List ℕ) → AreValidAt a result l ss → AreValidStmts a result l known (stmts_of ss)
-  stmts_valid l [] known h = tt
-  stmts_valid l (s ∷ ss) known h = (h.0 known, stmts_valid l ss (sets s ++ known) h.1)
+  pub both_valid : (l : Bool) (ss ts : List k.Stmt) (known : List ℕ) → AreValidStmts a result l known (stmts_of ss) → AreValidStmts a result l (after ss known) (stmts_of ts) → AreValidStmts a result l known (stmts_of (ss ++ ts))
+  both_valid l [] ts known h j = j
+  both_valid l (s ∷ ss) ts known h j = (h.0, both_valid l ss ts (sets s ++ known) h.1 j)
 
-  both_valid : (l : Bool) (ss ts : List k.Stmt) → AreValidAt a result l ss → AreValidAt a result l ts → AreValidAt a result l (ss ++ ts)
-  both_valid l [] ts h k = k
-  both_valid l (s ∷ ss) ts h k = (h.0, both_valid l ss ts h.1 k)
-
-  nodes_valid : (l : Bool) (s : syntax.Stmt) (ss : List k.Stmt) → AreValidAt a result l ss → AreValidAt a result l (nodes_of s ss)
-  nodes_valid l s ss h = by (is_block s) where
-    by : (b : Bool) → AreValidAt a result l (if b then block_of ss ∷ [] else ss)
-    by true = ((λ known. stmts_valid l ss known h), tt)
+  nodes_valid : (l : Bool) (s : syntax.Stmt) (ss : List k.Stmt) (known : List ℕ) → AreValidStmts a result l known (stmts_of ss) → AreValidStmts a result l known (stmts_of (nodes_of s ss))
+  nodes_valid l s ss known h = by (is_block s) where
+    by : (b : Bool) → AreValidStmts a result l known (stmts_of (if b then block_of ss ∷ [] else ss))
+    by true = (h, tt)
     by false = h
 
-  one_valid : (l : Bool) (s : k.Stmt) → IsValidAt a result l s → AreValidAt a result l (s ∷ [])
-  one_valid l s h = (h, tt)
-
   -- a local gets its first value
-  set_valid : (l : Bool) (locals : List Ty) (t : Ty) (c : k.Expr) → is_arithmetic t ≡ true → Begins (locals ++ t ∷ []) a.locals → ((known : List ℕ) → IsOf a known c t) → IsValidAt a result l (k.run (k.set_local (length locals) c))
-  set_valid l locals t c n b v known =
+  set_valid : (l : Bool) (known : List ℕ) (locals : List Ty) (t : Ty) (c : k.Expr) → Begins (locals ++ t ∷ []) a.locals → Suits (type_of a c) t → IsValid a known c → IsValidStmt a result l known (k.run (k.set_local (length locals) c))
+  set_valid l known locals t c b fits v =
       let e = at_end locals a.locals t b in
-      let o = v known in
-      (e.0, suits (type_of a c) (type_at a.locals (length locals)) (o.0 ∙ sym e.1) (subst (λ u. u ≢ ty.Void) (sym e.1) (no_void t n)), o.1)
+      (e.0, subst (Suits (type_of a c)) (sym e.1) fits, v)
+
+  make_valid : (l : Bool) (known : List ℕ) (locals : List Ty) (t : Ty) (c : ℕ) → a.arguments ≤ length locals → Begins (locals ++ t ∷ []) a.locals → t ≡ ty.Ref c → IsComplete a.classes c → IsValidStmt a result l known (k.make (length locals))
+  make_valid l known locals t c m b is done =
+      let e = at_end locals a.locals t b in
+      (m, e.0, (c, (e.1 ∙ is, done)))
 
   module _ (env : Environment) (around : IsAround a env) where
-    var_in : (known : List ℕ) (v : Var) → IsVarOf a v → IsVarIn a known v
-    var_in known v h = record {
-      low = h.0;
-      type = h.1;
-      typed = plain_typed (length a.classes) v.ty (arithmetic_plain v.ty h.2);
-      set = λ e. absurd (let z : is_reference v.ty ≡ false = no_reference v.ty h.2 in let y : ⊥ = cc in y);
-    }
+    abbrev AreOut : syntax.Expr → Type 0
+    AreOut = NamesOnly (AreOutside a env)
 
-    seen : (vs : List Var) → AllVars env a vs → (known : List ℕ) → IsSeen a known (inside env vs)
-    seen vs f known =
-        let s = around.seen known in
+    seen : (known : List ℕ) (vs : List Var) → ThisIsSet env known → AreVarsIn a known vs → IsSeen a known (inside env vs)
+    seen known vs this f =
+        let s = around known this in
         record {
           classes = s.classes;
           list = s.list;
@@ -80,123 +78,165 @@ module _ (a : Around) (result : Ty) where
           found = s.found;
           fields = s.fields;
           this_in = s.this_in;
-          vars = λ v m. var_in known v (f v m);
+          vars = f;
           functions = s.functions;
           methods = s.methods;
         }
 
-    names : (vs : List Var) (e : syntax.Expr) → NamesOnly (AreOutside a (inside env vs)) e
-    names vs e = names_only (AreOutside a (inside env vs)) around.outside e
+    expr_valid : (known : List ℕ) (vs : List Var) (e : syntax.Expr) (x : Typed) (l : Bool) → ThisIsSet env known → AreVarsIn a known vs → IsInRange e → AreOut e → Types (inside env vs) e x → IsValidStmt a result l known (k.run x.core)
+    expr_valid known vs e x l this f r q h = (typed_valid a known (inside env vs) (seen known vs this f) e x r q h).of.1
 
-    expr_valid : (vs : List Var) (e : syntax.Expr) (x : Typed) (l : Bool) → AllVars env a vs → IsInRange e → Types (inside env vs) e x → IsValidAt a result l (k.run x.core)
-    expr_valid vs e x l f r h known = (typed_valid a known (inside env vs) (seen vs f known) e x r (names vs e) h).of.1
+    suits_valid : (known : List ℕ) (vs : List Var) (to : Ty) (e : syntax.Expr) (c : k.Expr) → IsTyped (length a.classes) to → ThisIsSet env known → AreVarsIn a known vs → IsInRange e → AreOut e → TypesAs (inside env vs) to e c → Suits (type_of a c) to × IsValid a known c
+    suits_valid known vs to e c w this f r q h = typed_as_is_valid a known (inside env vs) (seen known vs this f) to e c w r q h
 
-    suits_valid : (vs : List Var) (to : Ty) (e : syntax.Expr) (c : k.Expr) → IsTyped (length a.classes) to → AllVars env a vs → IsInRange e → TypesAs (inside env vs) to e c → (known : List ℕ) → Suits (type_of a c) to × IsValid a known c
-    suits_valid vs to e c w f r h known = typed_as_is_valid a known (inside env vs) (seen vs f known) to e c w r (names vs e) h
+    test_is : (known : List ℕ) (vs : List Var) (e : syntax.Expr) (c : k.Expr) → ThisIsSet env known → AreVarsIn a known vs → IsInRange e → AreOut e → TypesAs (inside env vs) ty.Bool e c → IsTest a known c
+    test_is known vs e c this f r q h =
+        let v = suits_valid known vs ty.Bool e c tt this f r q h in
+        (suits_exactly (type_of a c) ty.Bool refl v.0, v.1)
 
-    as_valid : (vs : List Var) (to : Ty) (e : syntax.Expr) (c : k.Expr) → is_arithmetic to ≡ true → AllVars env a vs → IsInRange e → TypesAs (inside env vs) to e c → (known : List ℕ) → IsOf a known c to
-    as_valid vs to e c n f r h known =
-        let v = suits_valid vs to e c (plain_typed (length a.classes) to (arithmetic_plain to n)) f r h known in
-        (suits_exactly (type_of a c) to n v.0, v.1)
+    -- ---- declarations
 
-    starts_valid : (here : Here) (t : Ty) → IsPlain t → (vs : List Var) (locals : List Ty) (x : syntax.Declarator) (s : k.Stmt) (l : Bool) → AllVars env a vs → InitializerInRange x.initializer → Begins (locals ++ t ∷ []) a.locals → Starts env here t vs (length locals) x.mark x.name x.initializer s → IsValidAt a result l s
-    starts_valid here t p vs locals x s l f r b h = by x.initializer r h where
-      arithmetic : is_arithmetic t ≡ true
-      arithmetic = holds_arithmetic x.mark t p (may_begin env a here t vs (length locals) x s h)
+    module _ (here : Here) (y : TypeName) (s : Specified) (ok : IsSpecified (length env.classes) s) (same : env.classes ≡ a.classes) where
+      abbrev of_mark : Option DeclaratorMark → Ty
+      of_mark mark = variable_type mark s
 
-      by : (i : syntax.Initializer) → InitializerInRange i → Starts env here t vs (length locals) x.mark x.name i s → IsValidAt a result l s
-      by syntax.no_initial r h = subst (IsValidAt a result l) h.2.2 (set_valid l locals t (zero_of t) arithmetic b (λ known. zero_valid a known t arithmetic))
-      by (syntax.initial e) r h = subst (IsValidAt a result l) h.2.2.2.2 (set_valid l locals t h.2.2.0 arithmetic b (λ known. as_valid vs t e h.2.2.0 arithmetic f r (h.0, h.1, h.2.2.1) known))
-      by (syntax.arguments es) r h = absurd h
+      module _ (vs : List Var) (locals : List Ty) (mark : Option DeclaratorMark) (name : Name) (b : k.Stmt) (l : Bool) (known : List ℕ) (m : a.arguments ≤ length locals) (begins : Begins (locals ++ of_mark mark ∷ []) a.locals) where
+        made_valid : IsTrue (is_whole env.classes mark s) → Makes env.classes (length locals) mark s b → IsValidStmt a result l known b
+        made_valid whole x =
+            let done = complete_below env.classes x.0 (sym x.2 ∙ whole) in
+            subst (IsValidStmt a result l known) x.4 (make_valid l known locals (of_mark mark) x.0 m begins x.1 (subst (λ g. IsComplete g x.0) same (done, sym x.2 ∙ whole)))
 
-    all_start : (here : Here) (t : Ty) → IsPlain t → (vs : List Var) (locals : List Ty) (xs : List syntax.Declarator) (v : Made (List k.Stmt)) (l : Bool) → AllVars env a vs → DeclaratorsInRange xs → Begins v.locals a.locals → AllBegin env here t vs locals xs v → AreValidAt a result l v.tree
-    all_start here t p vs locals [] v l f r b h = subst (λ (w : Made (List k.Stmt)). AreValidAt a result l w.tree) h tt
-    all_start here t p vs locals (x ∷ xs) v l f r b h =
-        let next = vs ++ variable x.name.text t (length locals) ∷ [] in
-        let stays = subst (λ (w : Made (List k.Stmt)). Begins w.locals a.locals) (sym h.2.2) b in
-        let deeper = further (locals ++ t ∷ []) h.2.0.locals a.locals (begins_extend env here t next (locals ++ t ∷ []) xs h.2.0 h.2.1) stays in
-        let n = holds_arithmetic x.mark t p (may_begin env a here t vs (length locals) x h.0 h.1) in
-        let g = with_vars env a vs (variable x.name.text t (length locals) ∷ []) f (λ y m. elim m [ first e ↦ subst (IsVarOf a) e (var_at env a locals t x.name.text n deeper) | later k ↦ elim k [ ] ]) in
-        subst (λ (w : Made (List k.Stmt)). AreValidAt a result l w.tree) h.2.2
-        (starts_valid here t p vs locals x h.0 l f r.0 deeper h.1, all_start here t p next (locals ++ t ∷ []) xs h.2.0 l g r.1 stays h.2.1)
+        zero_set_valid : SetsZero (length locals) mark s b → IsValidStmt a result l known b
+        zero_set_valid x =
+            let kept = kept_is mark s x.0 x.1 in
+            let w = value_is env.classes mark s x.0 ok kept.0 in
+            let o = zero_valid a known x.0 (subst (λ g. IsVariable g x.0) same w.1) kept.1 in
+            subst (IsValidStmt a result l known) x.2 (set_valid l known locals x.0 (zero_of x.0) (subst (λ t. Begins (locals ++ t ∷ []) a.locals) w.0 begins) (suits (type_of a (zero_of x.0)) x.0 o.0 w.1.1) o.1)
 
-    start_valid : (here : Here) (vs : List Var) (locals : List Ty) (x : syntax.Start) (v : Made (List k.Stmt)) (l : Bool) → AllVars env a vs → StartInRange x → Begins v.locals a.locals → StartTypes env here vs locals x v → AreValidAt a result l v.tree
-    start_valid here vs locals syntax.no_start v l f r b h = subst (λ (w : Made (List k.Stmt)). AreValidAt a result l w.tree) h ((λ known. tt), tt)
-    start_valid here vs locals (syntax.start_expr e) v l f r b h = subst (λ (w : Made (List k.Stmt)). AreValidAt a result l w.tree) h.2 (expr_valid vs e h.0 l f r h.1, tt)
-    start_valid here vs locals (syntax.start_variables x) v l f r b h = all_start here h.0 (scalar_plain x.type_name.kind h.0 h.1) vs locals x.names v l f r b h.2
+        starts_valid : (i : syntax.Initializer) → ThisIsSet env known → AreVarsIn a known vs → InitializerInRange i → InitializerNamesOnly (AreOutside a env) i → Starts env here y s vs (length locals) mark name i b → IsValidStmt a result l known b
+        starts_valid syntax.no_initial this f r q h = elim (begun_is env.classes (length locals) mark s b ok (subst (λ z. begun (length locals) mark s ≡ Some z) h.2.2.2 h.2.1)) [
+          | inl x ↦ made_valid h.1.2 x
+          | inr x ↦ zero_set_valid x
+        ]
+        starts_valid (syntax.initial e) this f r q h =
+            let w = value_is env.classes mark s h.2.2.0 ok h.2.2.1 in
+            let c = h.2.2.2.0 in
+            let v = suits_valid known vs h.2.2.0 e c (subst (λ g. IsTyped (length g) h.2.2.0) same (type_typed env.classes h.2.2.0 w.1.0)) this f r q (h.0, h.1, h.2.2.2.1) in
+            subst (IsValidStmt a result l known) h.2.2.2.2.2 (set_valid l known locals h.2.2.0 c (subst (λ t. Begins (locals ++ t ∷ []) a.locals) w.0 begins) v.0 v.1)
+        starts_valid (syntax.arguments es) this f r q h = absurd h
 
-    test_valid : (vs : List Var) (c : Option syntax.Expr) (e : k.Expr) → AllVars env a vs → MaybeInRange c → TestTypes env vs c e → (known : List ℕ) → IsTest a known e
-    test_valid vs None e f r h known = subst (IsTest a known) h (refl, tt)
-    test_valid vs (Some x) e f r h known = as_valid vs ty.Bool x e refl f r h known
+      all_start : (known : List ℕ) (vs : List Var) (locals : List Ty) (xs : List syntax.Declarator) (v : Made (List k.Stmt)) (l : Bool) → ThisIsSet env known → AreVarsIn a known vs → DeclaratorsInRange xs → DeclaratorsNameOnly (AreOutside a env) xs → a.arguments ≤ length locals → Begins v.locals a.locals → AllBegin env here y s vs locals xs v
+          → AreValidStmts a result l known (stmts_of v.tree)
+      all_start known vs locals [] v l this f r q m b h = subst (λ (w : Made (List k.Stmt)). AreValidStmts a result l known (stmts_of w.tree)) h tt
+      all_start known vs locals (x ∷ xs) v l this f r q m b h =
+          let t = of_mark x.mark in
+          let next = vs ++ declared_at s x (length locals) ∷ [] in
+          let stays = subst (λ (w : Made (List k.Stmt)). Begins w.locals a.locals) (sym h.2.2) b in
+          let deeper = further (locals ++ t ∷ []) h.2.0.locals a.locals (begins_extend env here y s next (locals ++ t ∷ []) xs h.2.0 h.2.1) stays in
+          let n = may_begin env here y s ok vs (length locals) x.mark x.name x.initializer h.0 h.1 in
+          let now = sets h.0 ++ known in
+          let own = var_at env a same locals t x.name.text now n.0 (subst (λ ns. Has (ns ++ known) (length locals)) (sym n.1) (first refl)) deeper in
+          let g = with_vars env a same now vs (declared_at s x (length locals) ∷ []) (vars_after env a same (h.0 ∷ []) known vs f) (λ z j. elim j [ first e ↦ subst (IsVarIn a now) e own | later j ↦ elim j [ ] ]) in
+          let longer = no_shorter locals (locals ++ t ∷ []) (t ∷ [], refl) in
+          subst (λ (w : Made (List k.Stmt)). AreValidStmts a result l known (stmts_of w.tree)) h.2.2 (
+            starts_valid vs locals x.mark x.name h.0 l known m deeper x.initializer this f r.0 q.0 h.1,
+            all_start now next (locals ++ t ∷ []) xs h.2.0 l (this_after env (h.0 ∷ []) known this) g r.1 q.1 (omega arith) stays h.2.1,
+          )
 
-    step_valid : (vs : List Var) (c : Option syntax.Expr) (s : k.Stmt) (l : Bool) → AllVars env a vs → MaybeInRange c → StepTypes env vs c s → IsTrue (is_step s) × IsValidAt a result l s
-    step_valid vs None s l f r h = subst (λ s. IsTrue (is_step s) × IsValidAt a result l s) h (refl, λ known. tt)
-    step_valid vs (Some e) s l f r h = subst (λ s. IsTrue (is_step s) × IsValidAt a result l s) h.2 (refl, expr_valid vs e h.0 l f r h.1)
+    -- ---- parts
 
-    return_valid : (vs : List Var) (t : Ty) (e : syntax.Expr) (c : k.Expr) (l : Bool) → result ≡ t → IsTyped (length a.classes) t → AllVars env a vs → IsInRange e → TypesAs (inside env vs) t e c → IsValidAt a result l (k.return c)
-    return_valid vs t e c l same w f r h known =
-        let v = suits_valid vs t e c w f r h known in
+    same_classes : (known : List ℕ) → ThisIsSet env known → env.classes ≡ a.classes
+    same_classes known this = (around known this).classes
+
+    start_valid : (here : Here) (known : List ℕ) (vs : List Var) (locals : List Ty) (x : syntax.Start) (v : Made (List k.Stmt)) (l : Bool) → ThisIsSet env known → AreVarsIn a known vs → StartInRange x → StartNamesOnly (AreOutside a env) x → a.arguments ≤ length locals → Begins v.locals a.locals → StartTypes env here vs locals x v
+        → AreValidStmts a result l known (stmts_of v.tree)
+    start_valid here known vs locals syntax.no_start v l this f r q m b h = subst (λ (w : Made (List k.Stmt)). AreValidStmts a result l known (stmts_of w.tree)) h (tt, tt)
+    start_valid here known vs locals (syntax.start_expr e) v l this f r q m b h = subst (λ (w : Made (List k.Stmt)). AreValidStmts a result l known (stmts_of w.tree)) h.2 (expr_valid known vs e h.0 l this f r q h.1, tt)
+    start_valid here known vs locals (syntax.start_variables x) v l this f r q m b h =
+        all_start here x.type_name h.0 (specified_is env.classes x.type_name.kind h.0 h.1) (same_classes known this) known vs locals x.names v l this f r q m b h.2
+
+    test_valid : (known : List ℕ) (vs : List Var) (c : Option syntax.Expr) (e : k.Expr) → ThisIsSet env known → AreVarsIn a known vs → MaybeInRange c → MaybeNamesOnly (AreOutside a env) c → TestTypes env vs c e → IsTest a known e
+    test_valid known vs None e this f r q h = subst (IsTest a known) h (refl, tt)
+    test_valid known vs (Some x) e this f r q h = test_is known vs x e this f r q h
+
+    step_valid : (known : List ℕ) (vs : List Var) (c : Option syntax.Expr) (s : k.Stmt) (l : Bool) → ThisIsSet env known → AreVarsIn a known vs → MaybeInRange c → MaybeNamesOnly (AreOutside a env) c → StepTypes env vs c s → IsTrue (is_step s) × IsValidStmt a result l known s
+    step_valid known vs None s l this f r q h = subst (λ s. IsTrue (is_step s) × IsValidStmt a result l known s) h (refl, tt)
+    step_valid known vs (Some e) s l this f r q h = subst (λ s. IsTrue (is_step s) × IsValidStmt a result l known s) h.2 (refl, expr_valid known vs e h.0 l this f r q h.1)
+
+    return_valid : (known : List ℕ) (vs : List Var) (t : Ty) (e : syntax.Expr) (c : k.Expr) (l : Bool) → result ≡ t → IsTyped (length a.classes) t → ThisIsSet env known → AreVarsIn a known vs → IsInRange e → AreOut e → TypesAs (inside env vs) t e c → IsValidStmt a result l known (k.return c)
+    return_valid known vs t e c l same w this f r q h =
+        let v = suits_valid known vs t e c w this f r q h in
         (subst (Suits (type_of a c)) (sym same) v.0, v.1)
 
+    -- ---- statements
+
+    abbrev ValidTree : Bool → List ℕ → Made (List k.Stmt) → Type 0
+    ValidTree l known v = AreValidStmts a result l known (stmts_of v.tree)
+
     mutual
-      pub stmt_valid : (here : Here) → result ≡ here.result → IsTyped (length a.classes) here.result → (vs : List Var) (locals : List Ty) (s : syntax.Stmt) (v : Made (List k.Stmt)) → AllVars env a vs → StmtInRange s → Begins v.locals a.locals → StmtTypes env here vs locals s v → AreValidAt a result here.in_loop v.tree
-      stmt_valid here same w vs locals (syntax.block p ss) v f r b h = all_valid (within here vs) same w vs locals ss v f r b h
-      stmt_valid here same w vs locals (syntax.empty p) v f r b h = subst (λ (w : Made (List k.Stmt)). AreValidAt a result here.in_loop w.tree) h tt
-      stmt_valid here same w vs locals (syntax.run p e) v f r b h = subst (λ (w : Made (List k.Stmt)). AreValidAt a result here.in_loop w.tree) h.2 (expr_valid vs e h.0 here.in_loop f r h.1, tt)
-      stmt_valid here same w vs locals (syntax.declare p x) v f r b h = all_start here h.0 (scalar_plain x.type_name.kind h.0 h.1) vs locals x.names v here.in_loop f r b h.2
-      stmt_valid here same w vs locals (syntax.if_then p e s) v f r b h =
+      pub stmt_valid : (here : Here) → result ≡ here.result → IsTyped (length a.classes) here.result → (known : List ℕ) (vs : List Var) (locals : List Ty) (s : syntax.Stmt) (v : Made (List k.Stmt)) → ThisIsSet env known → AreVarsIn a known vs → StmtInRange s → StmtNamesOnly (AreOutside a env) s → a.arguments ≤ length locals → Begins v.locals a.locals → StmtTypes env here vs locals s v
+          → ValidTree here.in_loop known v
+      stmt_valid here same w known vs locals (syntax.block p ss) v this f r q m b h = all_valid (within here vs) same w known vs locals ss v this f r q m b h
+      stmt_valid here same w known vs locals (syntax.empty p) v this f r q m b h = subst (ValidTree here.in_loop known) h tt
+      stmt_valid here same w known vs locals (syntax.run p e) v this f r q m b h = subst (ValidTree here.in_loop known) h.2 (expr_valid known vs e h.0 here.in_loop this f r q h.1, tt)
+      stmt_valid here same w known vs locals (syntax.declare p x) v this f r q m b h =
+          all_start here x.type_name h.0 (specified_is env.classes x.type_name.kind h.0 h.1) (same_classes known this) known vs locals x.names v here.in_loop this f r q m b h.2
+      stmt_valid here same w known vs locals (syntax.if_then p e s) v this f r q m b h =
           let stays = subst (λ (w : Made (List k.Stmt)). Begins w.locals a.locals) (sym h.2.2) b in
-          let x = stmt_valid (within here vs) same w vs locals s h.2.0 f r.1 stays h.2.1 in
-          subst (λ (w : Made (List k.Stmt)). AreValidAt a result here.in_loop w.tree) h.2.2
-          ((λ known. (as_valid vs ty.Bool e h.0 refl f r.0 h.1 known, stmts_valid here.in_loop h.2.0.tree known x, tt)), tt)
-      stmt_valid here same w vs locals (syntax.if_else p e s u) v f r b h =
+          let x = stmt_valid (within here vs) same w known vs locals s h.2.0 this f r.1 q.1 m stays h.2.1 in
+          subst (ValidTree here.in_loop known) h.2.2 ((test_is known vs e h.0 this f r.0 q.0 h.1, x, tt), tt)
+      stmt_valid here same w known vs locals (syntax.if_else p e s u) v this f r q m b h =
           let stays = subst (λ (w : Made (List k.Stmt)). Begins w.locals a.locals) (sym h.2.2.2) b in
           let later = stmt_extends env (within here vs) vs h.2.0.locals u h.2.2.0 h.2.2.1 in
-          let x = stmt_valid (within here vs) same w vs locals s h.2.0 f r.1 (further h.2.0.locals h.2.2.0.locals a.locals later stays) h.2.1 in
-          let y = stmt_valid (within here vs) same w vs h.2.0.locals u h.2.2.0 f r.2 stays h.2.2.1 in
-          subst (λ (w : Made (List k.Stmt)). AreValidAt a result here.in_loop w.tree) h.2.2.2
-          ((λ known. (as_valid vs ty.Bool e h.0 refl f r.0 h.1 known, stmts_valid here.in_loop h.2.0.tree known x, stmts_valid here.in_loop h.2.2.0.tree known y)), tt)
-      stmt_valid here same w vs locals (syntax.while_do p e s) v f r b h =
+          let longer = no_shorter locals h.2.0.locals (stmt_extends env (within here vs) vs locals s h.2.0 h.2.1) in
+          let x = stmt_valid (within here vs) same w known vs locals s h.2.0 this f r.1 q.1 m (further h.2.0.locals h.2.2.0.locals a.locals later stays) h.2.1 in
+          let y = stmt_valid (within here vs) same w known vs h.2.0.locals u h.2.2.0 this f r.2 q.2 (omega arith) stays h.2.2.1 in
+          subst (ValidTree here.in_loop known) h.2.2.2 ((test_is known vs e h.0 this f r.0 q.0 h.1, x, y), tt)
+      stmt_valid here same w known vs locals (syntax.while_do p e s) v this f r q m b h =
           let stays = subst (λ (w : Made (List k.Stmt)). Begins w.locals a.locals) (sym h.2.2) b in
-          let x = stmt_valid (turn_within here vs) same w vs locals s h.2.0 f r.1 stays h.2.1 in
-          subst (λ (w : Made (List k.Stmt)). AreValidAt a result here.in_loop w.tree) h.2.2
-          ((λ known. (as_valid vs ty.Bool e h.0 refl f r.0 h.1 known, stmts_valid true h.2.0.tree known x)), tt)
-      stmt_valid here same w vs locals (syntax.do_while p s e) v f r b h =
+          let x = stmt_valid (turn_within here vs) same w known vs locals s h.2.0 this f r.1 q.1 m stays h.2.1 in
+          subst (ValidTree here.in_loop known) h.2.2 ((test_is known vs e h.0 this f r.0 q.0 h.1, x), tt)
+      stmt_valid here same w known vs locals (syntax.do_while p s e) v this f r q m b h =
           let stays = subst (λ (w : Made (List k.Stmt)). Begins w.locals a.locals) (sym h.2.2) b in
-          let x = stmt_valid (turn_within here vs) same w vs locals s h.0 f r.0 stays h.1 in
-          subst (λ (w : Made (List k.Stmt)). AreValidAt a result here.in_loop w.tree) h.2.2
-          ((λ known. (stmts_valid true h.0.tree known x, as_valid vs ty.Bool e h.2.0 refl f r.1 h.2.1 known)), tt)
-      stmt_valid here same w vs locals (syntax.for_do p start c s u) v f r b h =
+          let x = stmt_valid (turn_within here vs) same w known vs locals s h.0 this f r.0 q.0 m stays h.1 in
+          subst (ValidTree here.in_loop known) h.2.2 ((x, test_is known vs e h.2.0 this f r.1 q.1 h.2.1), tt)
+      stmt_valid here same w known vs locals (syntax.for_do p start c s u) v this f r q m b h =
           let g = h.2.1.2.2 in
-          let all = behind_start vs locals start in
+          let all = behind_start env.classes vs locals start in
           let stays = subst (λ (w : Made k.Stmt). Begins w.locals a.locals) (sym g.2) (subst (λ (w : Made (List k.Stmt)). Begins w.locals a.locals) (sym h.2.2) b) in
-          let first = further h.0.locals g.0.locals a.locals (stmt_extends env (turn_within here all) all h.0.locals u g.0 g.1) stays in
-          let vars = vars_started env a (within here vs) vs locals start h.0 f first h.1 in
-          let x = start_valid (within here vs) vs locals start h.0 here.in_loop f r.0 first h.1 in
-          let step = step_valid all s h.2.1.2.0 true vars r.2 h.2.1.2.1 in
-          let y = stmt_valid (turn_within here all) same w all h.0.locals u g.0 vars r.3 stays g.1 in
-          let loop = subst (λ (w : Made k.Stmt). IsValidAt a result here.in_loop w.tree) g.2
-          (λ known. (test_valid all c h.2.1.0 vars r.1 h.2.1.1 known, step.0, step.1 known, stmts_valid true g.0.tree known y)) in
-          subst (λ (w : Made (List k.Stmt)). AreValidAt a result here.in_loop w.tree) h.2.2
-          (both_valid here.in_loop h.0.tree (h.2.0.tree ∷ []) x (loop, tt))
-      stmt_valid here same w vs locals (syntax.break p) v f r b h = subst (λ (w : Made (List k.Stmt)). AreValidAt a result here.in_loop w.tree) h.2 ((λ known. h.1), tt)
-      stmt_valid here same w vs locals (syntax.continue p) v f r b h = subst (λ (w : Made (List k.Stmt)). AreValidAt a result here.in_loop w.tree) h.2 ((λ known. h.1), tt)
-      stmt_valid here same w vs locals (syntax.return_nothing p) v f r b h = subst (λ (w : Made (List k.Stmt)). AreValidAt a result here.in_loop w.tree) h.2 ((λ known. same ∙ void_here here.result h.1), tt)
-      stmt_valid here same w vs locals (syntax.return p e) v f r b h = subst (λ (w : Made (List k.Stmt)). AreValidAt a result here.in_loop w.tree) h.2.2.2 (return_valid vs here.result e h.2.2.0 here.in_loop same w f r (h.0, h.1, h.2.2.1), tt)
+          let begun = further h.0.locals g.0.locals a.locals (stmt_extends env (turn_within here all) all h.0.locals u g.0 g.1) stays in
+          let longer = no_shorter locals h.0.locals (start_extends env (within here vs) vs locals start h.0 h.1) in
+          let now = after h.0.tree known in
+          let known_this = this_after env h.0.tree known this in
+          let vars = vars_started env a (same_classes known this) (within here vs) known vs locals start h.0 f begun h.1 in
+          let x = start_valid (within here vs) known vs locals start h.0 here.in_loop this f r.0 q.0 m begun h.1 in
+          let step = step_valid now all s h.2.1.2.0 true known_this vars r.2 q.2 h.2.1.2.1 in
+          let y = stmt_valid (turn_within here all) same w now all h.0.locals u g.0 known_this vars r.3 q.3 (omega arith) stays g.1 in
+          let loop = subst (λ (w : Made k.Stmt). IsValidStmt a result here.in_loop now w.tree) g.2
+          (test_valid now all c h.2.1.0 known_this vars r.1 q.1 h.2.1.1, step.0, step.1, y) in
+          subst (ValidTree here.in_loop known) h.2.2 (both_valid here.in_loop h.0.tree (h.2.0.tree ∷ []) known x (loop, tt))
+      stmt_valid here same w known vs locals (syntax.break p) v this f r q m b h = subst (ValidTree here.in_loop known) h.2 (h.1, tt)
+      stmt_valid here same w known vs locals (syntax.continue p) v this f r q m b h = subst (ValidTree here.in_loop known) h.2 (h.1, tt)
+      stmt_valid here same w known vs locals (syntax.return_nothing p) v this f r q m b h = subst (ValidTree here.in_loop known) h.2 (same ∙ void_here here.result h.1, tt)
+      stmt_valid here same w known vs locals (syntax.return p e) v this f r q m b h = subst (ValidTree here.in_loop known) h.2.2.2 (return_valid known vs here.result e h.2.2.0 here.in_loop same w this f r q (h.0, h.1, h.2.2.1), tt)
 
-      all_valid : (here : Here) → result ≡ here.result → IsTyped (length a.classes) here.result → (vs : List Var) (locals : List Ty) (ss : syntax.Stmts) (v : Made (List k.Stmt)) → AllVars env a vs → StmtsInRange ss → Begins v.locals a.locals → StmtsType env here vs locals ss v → AreValidAt a result here.in_loop v.tree
-      all_valid here same w vs locals syntax.no_stmts v f r b h = subst (λ (w : Made (List k.Stmt)). AreValidAt a result here.in_loop w.tree) h tt
-      all_valid here same w vs locals (syntax.stmt_and s ss) v f r b h =
+      all_valid : (here : Here) → result ≡ here.result → IsTyped (length a.classes) here.result → (known : List ℕ) (vs : List Var) (locals : List Ty) (ss : syntax.Stmts) (v : Made (List k.Stmt)) → ThisIsSet env known → AreVarsIn a known vs → StmtsInRange ss → StmtsNameOnly (AreOutside a env) ss → a.arguments ≤ length locals → Begins v.locals a.locals → StmtsType env here vs locals ss v
+          → ValidTree here.in_loop known v
+      all_valid here same w known vs locals syntax.no_stmts v this f r q m b h = subst (ValidTree here.in_loop known) h tt
+      all_valid here same w known vs locals (syntax.stmt_and s ss) v this f r q m b h =
+          let behind_s = behind env.classes vs locals s in
+          let nodes = nodes_of s h.0.tree in
+          let now = after nodes known in
           let stays = subst (λ (w : Made (List k.Stmt)). Begins w.locals a.locals) (sym h.2.2) b in
-          let first = further h.0.locals h.2.0.locals a.locals (stmts_extend env here (behind vs locals s) h.0.locals ss h.2.0 h.2.1) stays in
-          let x = stmt_valid here same w vs locals s h.0 f r.0 first h.1 in
-          let g = vars_behind env a here vs locals s h.0 f first h.1 in
-          let y = all_valid here same w (behind vs locals s) h.0.locals ss h.2.0 g r.1 stays h.2.1 in
-          subst (λ (w : Made (List k.Stmt)). AreValidAt a result here.in_loop w.tree) h.2.2
-          (both_valid here.in_loop (nodes_of s h.0.tree) h.2.0.tree (nodes_valid here.in_loop s h.0.tree x) y)
+          let begun = further h.0.locals h.2.0.locals a.locals (stmts_extend env here behind_s h.0.locals ss h.2.0 h.2.1) stays in
+          let longer = no_shorter locals h.0.locals (stmt_extends env here vs locals s h.0 h.1) in
+          let x = stmt_valid here same w known vs locals s h.0 this f r.0 q.0 m begun h.1 in
+          let g = vars_behind env a (same_classes known this) here known vs locals s h.0 f begun h.1 in
+          let y = all_valid here same w now behind_s h.0.locals ss h.2.0 (this_after env nodes known this) g r.1 q.1 (omega arith) stays h.2.1 in
+          subst (ValidTree here.in_loop known) h.2.2 (both_valid here.in_loop nodes h.2.0.tree known (nodes_valid here.in_loop s h.0.tree known x) y)
 
 pub typed_stmt_is_valid : TypedStmtIsValid
-typed_stmt_is_valid a env around here vs locals s v f w r b h = stmt_valid a here.result env around here refl w vs locals s v f r b h
+typed_stmt_is_valid a env around here vs locals s v known this f w r q m b h = stmt_valid a here.result env around here refl w known vs locals s v this f r q m b h
 
 pub typed_stmt_extends : TypedStmtExtends
 typed_stmt_extends env here vs locals s v h = stmt_extends env here vs locals s v h

@@ -9,6 +9,7 @@ use Rattle.mm_simulate.specs.Simulates.{IsScalar}
 use Rattle.mm_syntax.specs.Tree.{UnitTree}
 use Rattle.mm_unit_typing.specs.Units.{UnitTypes}
 use Rattle.mm_typing_valid.specs.Numbers.{DeclsInRange}
+use Rattle.mm_typing_valid.specs.Units.{NoClasses}
 
 -- P holds of the number of each function that is called by it
 module _ (P : ℕ → Type 0) where
@@ -70,9 +71,9 @@ abbrev pub CalledAreDefined : Program → Type 0
 CalledAreDefined p = (f : Function) (b : Stmt) → Has p.functions f → f.body ≡ Some b
     → StmtCallsOnly (IsDefinedAt p) b
 
--- The program of a typed unit that defines `main` and all functions that are called is a whole
--- program, without classes.
+-- The program of a typed unit that declares no class, and defines `main` and all functions that
+-- are called, is a whole program, without classes.
 abbrev pub TypedUnitIsScalar : Type 0
-TypedUnitIsScalar = (u : UnitTree) (c : Checked) → DeclsInRange u.decls → UnitTypes u c
-    → CalledAreDefined c.program
+TypedUnitIsScalar = (u : UnitTree) (c : Checked) → NoClasses u.decls → DeclsInRange u.decls
+    → UnitTypes u c → CalledAreDefined c.program
     → number_of_main c.program.functions < length c.program.functions → IsScalar c.program

@@ -64,11 +64,35 @@ abbrev mutual
   StmtsInRange t.no_stmts = Unit {0}
   StmtsInRange (t.stmt_and s ss) = StmtInRange s × StmtsInRange ss
 
+-- ---- bodies
+
+abbrev pub BodyInRange : Option t.Stmt → Type 0
+BodyInRange None = Unit {0}
+BodyInRange (Some body) = StmtInRange body
+
+-- those of a body, wherever it stands; a constructor is typed as nothing yet
 abbrev pub FunctionInRange : t.Function → Type 0
 FunctionInRange (t.definition p x body) = StmtInRange body
+FunctionInRange (t.member_definition p class x body) = StmtInRange body
+FunctionInRange (t.method p virtual_at x body) = BodyInRange body
 FunctionInRange other = Unit {0}
+
+abbrev pub ItemInRange : t.Item → Type 0
+ItemInRange (t.function_item x) = FunctionInRange x
+ItemInRange other = Unit {0}
+
+abbrev pub ItemsInRange : List t.Item → Type 0
+ItemsInRange [] = Unit {0}
+ItemsInRange (x ∷ xs) = ItemInRange x × ItemsInRange xs
+
+abbrev pub ClassInRange : t.Class → Type 0
+ClassInRange (t.class_declaration p key x) = Unit {0}
+ClassInRange (t.class_definition p key x bases items text) = ItemsInRange items
+
+abbrev pub DeclInRange : t.Decl → Type 0
+DeclInRange (t.function_decl p x) = FunctionInRange x
+DeclInRange (t.class_decl p x) = ClassInRange x
 
 abbrev pub DeclsInRange : List t.Decl → Type 0
 DeclsInRange [] = Unit {0}
-DeclsInRange (t.function_decl p x ∷ xs) = FunctionInRange x × DeclsInRange xs
-DeclsInRange (t.class_decl p x ∷ xs) = DeclsInRange xs
+DeclsInRange (x ∷ xs) = DeclInRange x × DeclsInRange xs

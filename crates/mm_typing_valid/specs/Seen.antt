@@ -13,7 +13,7 @@ use Rattle.mm_answers.specs.Up.{up_of}
 use Rattle.mm_answers.specs.Finding.{found_of}
 use Rattle.mm_core.specs.Heads.{class_in, is_open, is_reference, field_type_in, types_of_params, owner_of, type_at}
 use Rattle.mm_core.specs.Tree.{Function}
-use Rattle.mm_core.specs.Valid.{Around, is_arithmetic}
+use Rattle.mm_core.specs.Valid.{Around}
 use Rattle.mm_scopes.specs.declared.head.Var.{Var}
 use Rattle.mm_scopes.specs.declared.head.FnHead.{FnHead}
 use Rattle.mm_scopes.specs.Environment.{Environment}
@@ -22,11 +22,6 @@ use Rattle.mm_typing.specs.Calls.{qualified}
 -- a type without a class
 abbrev pub IsPlain : Ty → Type 0
 IsPlain t = class_in t ≡ None
-
--- a variable is the local of its number, of an arithmetic type
-abbrev pub IsVarOf : Around → Var → Type 0
-IsVarOf a v = (v.local < length a.locals) × (type_at a.locals v.local ≡ v.ty)
-    × IsTrue (is_arithmetic v.ty)
 
 -- A variable is the local of its number and type. Where it refers to an object, it was set.
 pub record IsVarIn (a : Around) (known : List ℕ) (v : Var) : Type 0 where
