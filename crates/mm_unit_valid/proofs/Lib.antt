@@ -1,3 +1,4 @@
 pub mod Growing
 pub mod Words
 pub mod Owners
+pub mod Finals
