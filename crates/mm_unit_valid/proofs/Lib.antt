@@ -2,3 +2,4 @@ pub mod Growing
 pub mod Words
 pub mod Owners
 pub mod Finals
+pub mod Kept
