@@ -482,7 +482,10 @@ const FAULTS: [(&str, &str); 27] = [
         "m.cc:1:5: P4 f(int,bool)\n",
     ),
     ("int f() { return 0; }", "m.cc:1:1: P5 main\n"),
-    ("class A { };\nint main() { return x; }", "m.cc:1:1: N0\n"),
+    (
+        "int f(virtual int& y);\nint main() { return x; }",
+        "m.cc:1:7: N0\n",
+    ),
     ("int main() { x; break; }", "m.cc:1:14: S1 x\n"),
     ("int main() { break; x; }", "m.cc:1:14: S13 break\n"),
     ("int main() { int a; int a; 1 = 2; }", "m.cc:1:25: S2 a\n"),
