@@ -5,7 +5,7 @@ use Rattle.mm_base.specs.declared.world.Builtin.TheVariants.{Put, Get, More}
 use Rattle.mm_meaning.specs.Run.{Run, Gives, Stops}
 use Rattle.mm_classes.specs.declared.class.Ty.{Ty}
 use Rattle.mm_classes.specs.declared.class.Ty.TheVariants as ty
-use Rattle.mm_classes.specs.Classes.{Class}
+use Rattle.mm_classes.specs.Classes.{Class, IsComplete}
 use Rattle.mm_classes.specs.Subobjects.{Path, IsSubobject, end_of}
 use Rattle.mm_core.specs.Tree.{Function, Program}
 use Rattle.mm_core.specs.Heads.{field_type, argument_types, is_open}
@@ -49,6 +49,13 @@ pub record Layout : Type 0 where
   -- a subobject in an object of a class, and a field in its class
   pub offset : ℕ → Path → ℕ
   pub member : ℕ → ℕ → ℕ
+  -- whether the objects of a class have a tag, and whether each has a tag cell of its own
+  pub tagged : ℕ → Bool
+  pub owns : ℕ → Bool
+  -- how far past a subobject of a class that has a tag the tag cell stands that it uses
+  pub mark : ℕ → ℕ
+  -- the tag of a subobject in an object of a class
+  pub tag : ℕ → Path → ℕ
 
 -- the kind of a type's values; of `void`, any
 abbrev pub kind_of : Ty → CKind
@@ -99,16 +106,42 @@ Stands objects Null = Unit {0}
 Stands objects (At o s) = o < length objects
 Stands objects Nothing = Unit {0}
 
+-- ---- the cells of an object
+
+-- the cell of a field of a subobject, or the tag cell that a subobject uses
+pub data Cell : Type 0 where
+  field : Path → ℕ → Cell
+  tag : Path → Cell
+
+module _ (g : List Class) (l : Layout) where
+  -- the cells of an object of class d
+  abbrev pub IsCell : ℕ → Cell → Type 0
+  IsCell d (field t f) = IsSubobject g d t × IsFieldOf g (end_of t) f
+  IsCell d (tag t) = IsSubobject g d t × IsTrue (l.tagged (end_of t))
+
+  abbrev pub place_of : ℕ → Cell → ℕ
+  place_of d (field t f) = l.offset d t + l.member (end_of t) f
+  place_of d (tag t) = l.offset d t + l.mark (end_of t)
+
+  abbrev pub cell_in : Cell → CCell
+  cell_in (field t f) = cell_of (field_type g (end_of t) f)
+  cell_in (tag t) = cell.Short
+
+  -- what a cell holds
+  abbrev pub held_in : List Object → Object → Cell → CValue
+  held_in objects x (field t f) = in_c l objects (x.fields t f)
+  held_in objects x (tag t) = holds.Unsigned (l.tag x.class t)
+
 -- ---- states
 
 module _ (g : List Class) (l : Layout) where
-  -- An object's block. One field for each sort of cell: what else stands in it is a further field
-  -- here.
+  -- An object's block: each field stands in its cell, and each tag cell holds the tag of the
+  -- subobjects that use it.
   pub record IsBlock (objects : List Object) (x : Object) (b : Block) : Type 0 where
+    pub complete : IsComplete g x.class
     pub size : b.size ≡ l.size x.class
-    pub cell : (t : Path) (f : ℕ) → IsSubobject g x.class t → IsFieldOf g (end_of t) f →
-        load_in (cell_of (field_type g (end_of t) f)) (l.offset x.class t + l.member (end_of t) f)
-        (Some b) ≡ Some (in_c l objects (x.fields t f))
+    pub cell : (y : Cell) → IsCell g l x.class y →
+        load_in (cell_in g l y) (place_of g l x.class y) (Some b) ≡ Some (held_in g l objects x y)
 
   -- object o is block o
   pub record Heaps (objects : List Object) (memory : List Block) : Type 0 where
