@@ -1,6 +1,6 @@
 -- What the cells of an object's block hold: a store changes one of them.
-use Rattle.std.proofs.Common.{arith, ◌≡◌, ◌≢◌, ℕ, suc, ◌+◌, ◌%◌, ◌<◌, ◌≤◌, List, [], ◌∷◌, refl, sym, ap, subst, ◌∙◌, inl, inr}
-use Rattle.std.specs.Prelude.{◌⊎◌, Bool, true, false, ◌&&◌, ◌||◌, ◌==◌, nat_le, IsTrue, Option, Some, None, if◌then◌else◌}
+use Rattle.std.proofs.Common.{arith, ◌≡◌, ℕ, ◌+◌, ◌%◌, ◌<◌, List, [], ◌∷◌, refl, sym, ap, subst, ◌∙◌, inl, inr}
+use Rattle.std.specs.Prelude.{Bool, true, false, ◌&&◌, ◌||◌, ◌==◌, nat_le, IsTrue, Some, None, if◌then◌else◌}
 use Rattle.std.specs.List.{list_all}
 use Rattle.mm_classes.specs.declared.class.Ty.{Ty}
 use Rattle.mm_classes.specs.declared.class.Ty.TheVariants as ty
@@ -120,10 +120,12 @@ module _ (g : List Class) (l : Layout) (lays : IsLayout g l) (d : ℕ) (complete
   one_place (tag t) (field s e) h = absurd h
 
   pub room_stored : (z : Cell) (v : CValue) (b : Block) → IsCell g l d z → HasRoom b → HasRoom (stored z v b)
-  room_stored z v b is h = record { each = λ y iy. elim (lays.apart d z y complete is iy) [
-    | inl e ↦ room_same (cell_in g l y) (cell_in g l z) (place_of g l d y) (place_of g l d z) v b (one_place z y e).0 (one_place z y e).1 (h.each y iy)
-    | inr f ↦ room_apart (cell_in g l y) (cell_in g l z) (place_of g l d y) (place_of g l d z) v b f (h.each y iy)
-  ] }
+  room_stored z v b is h = record {
+    each = λ y iy. elim (lays.apart d z y complete is iy) [
+      | inl e ↦ room_same (cell_in g l y) (cell_in g l z) (place_of g l d y) (place_of g l d z) v b (one_place z y e).0 (one_place z y e).1 (h.each y iy)
+      | inr f ↦ room_apart (cell_in g l y) (cell_in g l z) (place_of g l d y) (place_of g l d z) v b f (h.each y iy)
+    ];
+  }
 
   pub stored_apart : (y z : Cell) (v : CValue) (b : Block) → AreApart (place_of g l d z) (width_of (cell_in g l z)) (place_of g l d y) (width_of (cell_in g l y)) → at y (stored z v b) ≡ at y b
   stored_apart y z v b h = value_apart (cell_in g l y) (cell_in g l z) (place_of g l d y) (place_of g l d z) v b h
@@ -140,10 +142,12 @@ module _ (g : List Class) (l : Layout) (lays : IsLayout g l) (d : ℕ) (complete
       by (inr f) = let p = (one_place z y e).0 in let w = width_some (cell_in g l y) in omega arith
 
   pub room_fresh : HasRoom (fresh (l.size d))
-  room_fresh = record { each = λ y iy. let in' = lays.inside d y complete iy in let al = lays.aligned d y complete iy in
-      let fits : nat_le (place_of g l d y + width_of (cell_in g l y)) (l.size d) ≡ true = grind arith in
-      let even : (place_of g l d y % width_of (cell_in g l y) == 0) ≡ true = grind arith in
-      and_both (nat_le (place_of g l d y + width_of (cell_in g l y)) (l.size d) && (place_of g l d y % width_of (cell_in g l y) == 0)) true (and_both (nat_le (place_of g l d y + width_of (cell_in g l y)) (l.size d)) (place_of g l d y % width_of (cell_in g l y) == 0) fits even) refl }
+  room_fresh = record {
+    each = λ y iy. let in' = lays.inside d y complete iy in let al = lays.aligned d y complete iy in
+        let fits : nat_le (place_of g l d y + width_of (cell_in g l y)) (l.size d) ≡ true = grind arith in
+        let even : (place_of g l d y % width_of (cell_in g l y) == 0) ≡ true = grind arith in
+        and_both (nat_le (place_of g l d y + width_of (cell_in g l y)) (l.size d) && (place_of g l d y % width_of (cell_in g l y) == 0)) true (and_both (nat_le (place_of g l d y + width_of (cell_in g l y)) (l.size d)) (place_of g l d y % width_of (cell_in g l y) == 0) fits even) refl;
+  }
 
   -- ---- a new object
 
