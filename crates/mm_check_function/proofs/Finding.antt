@@ -12,8 +12,10 @@ use Rattle.mm_core.specs.declared.tree.CoreFn.{CoreFn}
 use Rattle.mm_core.specs.Tree as k
 use Rattle.mm_core.specs.View.{function_view}
 use Rattle.mm_scopes.specs.declared.head.FnHead.{FnHead}
+use Rattle.mm_base.specs.declared.place.Place.{Place}
 use Rattle.mm_syntax.specs.declared.name.Name.{Name}
-use Rattle.mm_unit_typing.specs.Functions.{Heading, is_function, number_of, known, core_param, head_of, heads_from, declared_function, defined_with, with_function, with_body}
+use Rattle.mm_unit_typing.specs.Heads.{Heading}
+use Rattle.mm_unit_typing.specs.Functions.{Declarations, is_function, function_number, known, core_param, head_of, heads_from, declared_function, defined_with, with_function, with_body}
 use Rattle.mm_check_function.specs.Known.{functions_view, found_in, has_params, number_in}
 
 -- ---- where a function stands
@@ -68,9 +70,9 @@ module _ (hs : List FnHead) (gs : List CoreFn) (name : List ℕ) (params : List 
   pub not_known : None ≡ found_in hs name params → known (functions_view gs) name params ≡ None
   not_known e =
       let p : position_or_len (is_function name params) (functions_view gs) ≡ length (functions_view gs) = place_none (is_function name params) 0 (functions_view gs) (sym (found_place (functions_view gs) 0 name params) ∙ (ap (λ x. found_in x name params) (sym sees) ∙ sym e)) in
-      slice_get_past (functions_view gs) (number_of (functions_view gs) name params) (omega (arith, p))
+      slice_get_past (functions_view gs) (function_number (functions_view gs) name params) (omega (arith, p))
 
-  pub is_known : (n : ℕ) → Some n ≡ found_in hs name params → (n ≡ number_of (functions_view gs) name params) × (n < length gs)
+  pub is_known : (n : ℕ) → Some n ≡ found_in hs name params → (n ≡ function_number (functions_view gs) name params) × (n < length gs)
   is_known n e =
       let p = place_some (is_function name params) 0 (functions_view gs) n (sym (found_place (functions_view gs) 0 name params) ∙ (ap (λ x. found_in x name params) (sym sees) ∙ sym e)) in
       let l = length-map gs function_view in
@@ -82,19 +84,25 @@ pub heads_push : (fs : List k.Function) (n : ℕ) (f : k.Function) → heads_fro
 heads_push [] n f = ap (λ m. head_of m f ∷ []) (omega arith)
 heads_push (g ∷ fs) n f = ap (λ hs. head_of n g ∷ hs) (heads_push fs (n + 1) f ∙ ap (λ m. heads_from (n + 1) fs ++ head_of m f ∷ []) (omega arith))
 
-pub heads_body : (fs : List k.Function) (n m : ℕ) (locals : List Ty) (body : k.Stmt) → heads_from n (with_body fs m locals body) ≡ heads_from n fs
-heads_body [] n m locals body = refl
-heads_body (f ∷ fs) n zero locals body = refl
-heads_body (f ∷ fs) n (suc m) locals body = ap (λ hs. head_of n f ∷ hs) (heads_body fs (n + 1) m locals body)
+pub heads_body : (fs : List k.Function) (n m : ℕ) (in_class : Bool) (locals : List Ty) (body : k.Stmt) → heads_from n (with_body fs m in_class locals body) ≡ heads_from n fs
+heads_body [] n m in_class locals body = refl
+heads_body (f ∷ fs) n zero in_class locals body = refl
+heads_body (f ∷ fs) n (suc m) in_class locals body = ap (λ hs. head_of n f ∷ hs) (heads_body fs (n + 1) m in_class locals body)
 
-pub body_set : (fs : List k.Function) (n : ℕ) (d : k.Function) (locals : List Ty) (body : k.Stmt) → n < length fs → set fs n (defined_with locals body (get_or fs n d)) ≡ with_body fs n locals body
-body_set [] n d locals body low = absurd (omega arith)
-body_set (f ∷ fs) zero d locals body low = refl
-body_set (f ∷ fs) (suc n) d locals body low = ap (λ gs. f ∷ gs) (body_set fs n d locals body (omega arith))
+pub body_set : (fs : List k.Function) (n : ℕ) (d : k.Function) (in_class : Bool) (locals : List Ty) (body : k.Stmt) → n < length fs → set fs n (defined_with in_class locals body (get_or fs n d)) ≡ with_body fs n in_class locals body
+body_set [] n d in_class locals body low = absurd (omega arith)
+body_set (f ∷ fs) zero d in_class locals body low = refl
+body_set (f ∷ fs) (suc n) d in_class locals body low = ap (λ gs. f ∷ gs) (body_set fs n d in_class locals body (omega arith))
+
+-- no function is defined where there is none of the number
+pub body_past : (fs : List k.Function) (n : ℕ) (in_class : Bool) (locals : List Ty) (body : k.Stmt) → slice_get fs n ≡ None → with_body fs n in_class locals body ≡ fs
+body_past [] n in_class locals body none = refl
+body_past (f ∷ fs) zero in_class locals body none = absurd (cc)
+body_past (f ∷ fs) (suc n) in_class locals body none = ap (λ gs. f ∷ gs) (body_past fs n in_class locals body none)
 
 -- ---- the function at its place
 
-pub known_at : (gs : List CoreFn) (name : List ℕ) (params : List Ty) (n : ℕ) (f : CoreFn) → n ≡ number_of (functions_view gs) name params → n < length gs → f ≡ get_or gs n f → known (functions_view gs) name params ≡ Some (function_view f)
+pub known_at : (gs : List CoreFn) (name : List ℕ) (params : List Ty) (n : ℕ) (f : CoreFn) → n ≡ function_number (functions_view gs) name params → n < length gs → f ≡ get_or gs n f → known (functions_view gs) name params ≡ Some (function_view f)
 known_at gs name params n f is low e = ap (slice_get (functions_view gs)) (sym is) ∙ (slice_get-map function_view gs n ∙ ap (option_map function_view) (slice_get-get_or gs n f low ∙ ap (λ g. Some g) (sym e)))
 
 -- ---- a function that is declared
@@ -104,38 +112,14 @@ some_within [] n low = absurd (omega arith)
 some_within (x ∷ xs) zero low = refl
 some_within (x ∷ xs) (suc n) low = some_within xs n (omega arith)
 
-pub with_known : (gs : List CoreFn) (name : Name) (h : Heading) (n : ℕ) → n ≡ number_of (functions_view gs) name.text h.params → n < length gs → functions_view gs ≡ with_function (functions_view gs) name h
-with_known gs name h n is low =
+pub is_known_at : (gs : List CoreFn) (name : List ℕ) (params : List Ty) (n : ℕ) → n ≡ function_number (functions_view gs) name params → n < length gs → is_some (known (functions_view gs) name params) ≡ true
+is_known_at gs name params n is low =
     let l = length-map gs function_view in
-    let s : is_some (known (functions_view gs) name.text h.params) ≡ true = some_within (functions_view gs) (number_of (functions_view gs) name.text h.params) (omega (arith, is, l)) in
-    rw s refl
+    some_within (functions_view gs) (function_number (functions_view gs) name params) (omega (arith, is, l))
 
-pub with_new : (fs : List k.Function) (name : Name) (h : Heading) → known fs name.text h.params ≡ None → fs ++ declared_function name h ∷ [] ≡ with_function fs name h
-with_new fs name h none = rw none refl
+module _ (d : Declarations) (name : Name) (h : Heading) where
+  pub with_known : is_some (known d.functions name.text h.params) ≡ true → d ≡ with_function d name h
+  with_known s = rw s refl
 
-module _ {X : Type 0} (p : X → Bool) (y : X) (passes : p y ≡ true) where
-  position_one : (x : X) (xs : List X) (b : Bool) → p x ≡ b → (slice_get xs (position_or_len p xs) ≡ None → position_or_len p (xs ++ y ∷ []) ≡ length xs) → slice_get (x ∷ xs) (position_or_len p (x ∷ xs)) ≡ None → position_or_len p (x ∷ xs ++ y ∷ []) ≡ length (x ∷ xs)
-  position_one x xs true eb h e = absurd (let z = rw eb at e in cc)
-  position_one x xs false eb h e =
-      let one : 1 + position_or_len p xs ≡ suc (position_or_len p xs) = omega arith in
-      let r = h (rw (eb, one) at e) in
-      rw eb (omega arith)
-
-  position_new : (xs : List X) → slice_get xs (position_or_len p xs) ≡ None → position_or_len p (xs ++ y ∷ []) ≡ length xs
-  position_new [] e = rw passes refl
-  position_new (x ∷ xs) e = position_one x xs (p x) refl (position_new xs) e
-
-pub same_params : (ts : List Ty) → types_of_params (map core_param ts) ≡ ts
-same_params [] = refl
-same_params (t ∷ ts) = ap (λ us. t ∷ us) (same_params ts)
-
-is_this : (name : Name) (h : Heading) → is_function name.text h.params (declared_function name h) ≡ true
-is_this name h = both (bytes_eq name.text name.text) (same_types (types_of_params (map core_param h.params)) h.params)
-    ((bytes_eq-Decides name.text name.text).1 refl)
-    ((bytes_eq-Decides (map type_code (types_of_params (map core_param h.params))) (map type_code h.params)).1 (ap (map type_code) (same_params h.params)))
-  where
-    both : (b c : Bool) → b ≡ true → c ≡ true → (b && c) ≡ true
-    both b c e f = rw (e, f) refl
-
-pub new_number : (fs : List k.Function) (name : Name) (h : Heading) → known fs name.text h.params ≡ None → length fs ≡ number_of (fs ++ declared_function name h ∷ []) name.text h.params
-new_number fs name h none = sym (position_new (is_function name.text h.params) (declared_function name h) (is_this name h) fs none)
+  pub with_new : known d.functions name.text h.params ≡ None → record d { functions = d.functions ++ declared_function false name.text name.place h.result h.params ∷ [] } ≡ with_function d name h
+  with_new none = rw none refl

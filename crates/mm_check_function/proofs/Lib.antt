@@ -1,3 +1,3 @@
 pub mod Params
 pub mod Finding
-pub mod Table
+pub mod Standing

@@ -1,20 +1,21 @@
 //! The functions that are declared.
 
-ghost use Rattle.std.specs.Prelude.{◌≡◌, ◌<◌, ◌++◌, [], ◌∷◌, length, map, slice_get, Some, None, Ok, IfOk, OnOk, MatchOption};
-ghost use Rattle.mm_core.specs.Heads.{same_type, same_types, type_code};
+ghost use Rattle.std.specs.Prelude.{◌≡◌, ◌<◌, ◌++◌, [], ◌∷◌, length, map, false, Some, None, Ok, IfOk, OnOk, MatchOption};
+ghost use Rattle.mm_core.specs.Heads.{same_type, same_types, type_code, types_of_params};
 ghost use Rattle.mm_core.specs.View.{function_view};
 ghost use Rattle.mm_checks.specs.Checks.{Gives};
 ghost use Rattle.mm_unit_typing.specs.Functions as functions;
-ghost use Rattle.mm_unit_typing.specs.Functions.{heading, heads_from, head_of, number_of, known, declared_function, defined_with, seen, with_function, with_body};
-ghost use Rattle.mm_unit_typing.specs.Made.{block_of};
-ghost use Rattle.mm_check_stmt.specs.Results.{steps_view};
-ghost use Rattle.mm_check_function.specs.Known.{functions_view, found_in, Sees, seeing};
+ghost use Rattle.mm_unit_typing.specs.Functions.{function_number, head_of, known, declared_function, never, with_function};
+ghost use Rattle.mm_check_function.specs.Known.{functions_view, declarations, with_functions, found_in, heading_view, Sees, Stands};
 
+use crate::declared::Declared;
+use crate::head::Signature;
+use mm_base::place::Place;
 use mm_base::text::Text;
 use mm_checks::CheckEnd;
 use mm_classes::class::Ty;
 use mm_core::part::CoreParam;
-use mm_core::tree::{CoreFn, CoreStmt};
+use mm_core::tree::CoreFn;
 use mm_scopes::env::Env;
 use mm_scopes::head::FnHead;
 use mm_syntax::name::Name;
@@ -42,7 +43,7 @@ pub(crate) fn is_same(a: &Ty, b: &Ty) -> bool
     code(a) == code(b)
 }
 
-fn are_same(a: &[Ty], b: &[Ty]) -> bool
+pub(crate) fn are_same(a: &[Ty], b: &[Ty]) -> bool
     ensures { result ≡ same_types a.now b.now }
 {
     match a {
@@ -73,7 +74,7 @@ fn found(env: &Env, name: &str, params: &[Ty]) -> Option<u32>
 pub fn find(env: &Env, fs: &[CoreFn], name: &str, params: &[Ty]) -> Option<usize>
     requires { Sees env.now fs.now }
     ensures { MatchOption result (known (functions_view fs.now) name.now params.now ≡ None)
-        (λ n. (n ≡ number_of (functions_view fs.now) name.now params.now) × (n < length fs.now)) }
+        (λ n. (n ≡ function_number (functions_view fs.now) name.now params.now) × (n < length fs.now)) }
 {
     match found(env, name, params) {
         None => None,
@@ -81,30 +82,37 @@ pub fn find(env: &Env, fs: &[CoreFn], name: &str, params: &[Ty]) -> Option<usize
     }
 }
 
+// Whether a declaration with this result agrees with the function.
+fn agrees(ty: Option<Ty>, defines: bool, f: &CoreFn) -> bool
+    ensures { result ≡ functions.agrees ty defines (Some (function_view f.now)) }
+{
+    match ty {
+        None => false,
+        Some(ty) => is_same(&ty, &f.result) && !(defines && f.defined),
+    }
+}
+
+/// Whether a declaration, or a definition, fits beside those that are there.
+pub(crate) fn may_declare(
+    d: &Declared,
+    defines: bool,
+    name: &str,
+    ty: Option<Ty>,
+    params: &[Ty],
+) -> bool
+    requires { Stands d.now }
+    ensures { result ≡ functions.may_declare (functions_view d.now.functions) name.now ty params.now defines }
+{
+    let fs = d.functions.as_slice();
+    match find(&d.env, fs, name, params) {
+        None => true,
+        Some(n) => agrees(ty, defines, &fs[n]),
+    }
+}
+
 // ---- declaring
 
-// The number of the next function.
-fn next_number(fs: &Items<CoreFn>) -> Result<u32, CheckEnd>
-    ensures { Gives (λ n. n) result (Ok (length fs.now)) }
-{
-    match u32::try_from(fs.len()) {
-        Ok(n) => Ok(n),
-        Err(_) => Err(CheckEnd::NoMemory),
-    }
-}
-
-// No parameter is virtual.
-fn none_virtual(alloc: Global, params: &[Ty]) -> Result<Items<bool>, AllocError>
-    ensures { IfOk result (λ marks. marks ≡ functions.never params.now) }
-{
-    let mut marks = Items::new(alloc);
-    for _ty in params {
-        marks.push(false)?;
-    }
-    Ok(marks)
-}
-
-// Parameters of these types.
+// Parameters of these types; none is virtual.
 fn core_params(alloc: Global, params: &[Ty]) -> Result<Items<CoreParam>, AllocError>
     ensures { IfOk result (λ all. all ≡ map functions.core_param params.now) }
 {
@@ -118,16 +126,23 @@ fn core_params(alloc: Global, params: &[Ty]) -> Result<Items<CoreParam>, AllocEr
     Ok(all)
 }
 
-// A function that is declared here, and not defined yet.
-fn new_function(alloc: Global, name: &Name, ty: Ty, params: &[Ty]) -> Result<CoreFn, AllocError>
-    ensures { IfOk result (λ f. function_view f ≡ declared_function name.now (heading ty params.now)) }
+/// A function that is declared at this place, and not defined yet.
+pub fn new_function(
+    alloc: Global,
+    member: bool,
+    name: &str,
+    place: Place,
+    ty: Ty,
+    params: &[Ty],
+) -> Result<CoreFn, AllocError>
+    ensures { IfOk result (λ f. function_view f ≡ declared_function member name.now place ty params.now) }
 {
     Ok(CoreFn {
-        name: Text::from_str(alloc, name.text.as_str())?,
+        name: Text::from_str(alloc, name)?,
         defined: false,
         in_class: false,
-        member: false,
-        place: name.place,
+        member,
+        place,
         result: ty,
         params: core_params(alloc, params)?,
         locals: Items::new(alloc),
@@ -135,106 +150,118 @@ fn new_function(alloc: Global, name: &Name, ty: Ty, params: &[Ty]) -> Result<Cor
     })
 }
 
-// What is seen of it.
-fn new_head(
-    alloc: Global,
-    number: u32,
-    name: &Name,
-    ty: Ty,
-    params: &[Ty],
-) -> Result<FnHead, AllocError>
-    ensures { IfOk result (λ h. h ≡ head_of number (declared_function name.now (heading ty params.now))) }
+// The types of parameters.
+fn param_types(alloc: Global, params: &[CoreParam]) -> Result<Items<Ty>, AllocError>
+    ensures { IfOk result (λ types. types ≡ types_of_params params.now) }
+{
+    let mut types = Items::new(alloc);
+    for q in params {
+        types.push(q.ty)?;
+    }
+    Ok(types)
+}
+
+// No parameter is virtual.
+fn none_virtual(alloc: Global, params: &[CoreParam]) -> Result<Items<bool>, AllocError>
+    ensures { IfOk result (λ marks. marks ≡ never (types_of_params params.now)) }
+{
+    let mut marks = Items::new(alloc);
+    for _q in params {
+        marks.push(false)?;
+    }
+    Ok(marks)
+}
+
+// What is seen of the function of this number.
+fn new_head(alloc: Global, number: u32, f: &CoreFn) -> Result<FnHead, AllocError>
+    ensures { IfOk result (λ h. h ≡ head_of number (function_view f.now)) }
 {
     Ok(FnHead {
         number,
-        name: Text::from_str(alloc, name.text.as_str())?,
-        params: Items::from_slice(alloc, params)?,
-        virtuals: none_virtual(alloc, params)?,
-        result: ty,
+        name: Text::from_str(alloc, f.name.as_str())?,
+        params: param_types(alloc, f.params.as_slice())?,
+        virtuals: none_virtual(alloc, f.params.as_slice())?,
+        result: f.result,
     })
 }
 
-// A new function, behind the others.
-fn push_function(
-    alloc: Global,
-    env: &mut Env,
-    fs: &mut Items<CoreFn>,
-    name: &Name,
-    ty: Ty,
-    params: &[Ty],
-) -> Result<usize, CheckEnd>
-    requires { Sees env.old fs.old }
-    ensures number { Gives (λ n. n) result (Ok (length fs.old)) }
-    ensures functions { OnOk result (functions_view fs.new ≡ functions_view fs.old ++ declared_function name.now (heading ty params.now) ∷ []) }
-    ensures env { OnOk result (env.new ≡ seeing env.old fs.new) }
+// The number of the next function.
+fn next_number(fs: &Items<CoreFn>) -> Result<u32, CheckEnd>
+    ensures { Gives (λ n. n) result (Ok (length fs.now)) }
 {
-    let number = next_number(fs)?;
-    let head = new_head(alloc, number, name, ty, params)?;
-    fs.push(new_function(alloc, name, ty, params)?)?;
-    env.declare_function(head)?;
-    Ok(number as usize)
-}
-
-/// The place of the function that a head declares. It is put behind the others where none is
-/// declared so.
-pub fn declare(
-    alloc: Global,
-    env: &mut Env,
-    fs: &mut Items<CoreFn>,
-    name: &Name,
-    ty: Ty,
-    params: &[Ty],
-) -> Result<usize, CheckEnd>
-    requires { Sees env.old fs.old }
-    ensures number { Gives (λ n. n) result (Ok (number_of (functions_view fs.new) name.now.text params.now)) }
-    ensures low { IfOk result (λ n. n < length fs.new) }
-    ensures functions { OnOk result (functions_view fs.new ≡ with_function (functions_view fs.old) name.now (heading ty params.now)) }
-    ensures env { OnOk result (env.new ≡ seeing env.old fs.new) }
-{
-    match find(env, fs.as_slice(), name.text.as_str(), params) {
-        Some(n) => Ok(n),
-        None => push_function(alloc, env, fs, name, ty, params),
+    match u32::try_from(fs.len()) {
+        Ok(n) => Ok(n),
+        Err(_) => Err(CheckEnd::NoMemory),
     }
 }
 
-// ---- defining
-
-// The function with its variables and its body.
-#[tactic(auto, using(mm_core::proofs::Views::core_rules))]
-fn with_parts(
-    alloc: Global,
-    f: &CoreFn,
-    locals: &[Ty],
-    body: Items<CoreStmt>,
-) -> Result<CoreFn, AllocError>
-    ensures { IfOk result (λ g. function_view g ≡ defined_with locals.now (block_of (steps_view body)) (function_view f.now)) }
+// What is seen of the next function.
+fn next_head(alloc: Global, fs: &Items<CoreFn>, f: &CoreFn) -> Result<FnHead, CheckEnd>
+    ensures { Gives (λ h. h) result (Ok (head_of (length fs.now) (function_view f.now))) }
 {
-    Ok(CoreFn {
-        name: Text::from_str(alloc, f.name.as_str())?,
-        defined: true,
-        in_class: f.in_class,
-        member: f.member,
-        place: f.place,
-        result: f.result,
-        params: Items::from_slice(alloc, f.params.as_slice())?,
-        locals: Items::from_slice(alloc, locals)?,
-        body: Some(CoreStmt::Block(body)),
-    })
+    let number = next_number(fs)?;
+    Ok(new_head(alloc, number, f)?)
 }
 
-/// Gives the function at a place its variables and its body.
-pub fn define(
-    alloc: Global,
-    fs: &mut Items<CoreFn>,
-    n: usize,
-    locals: &[Ty],
-    body: Items<CoreStmt>,
-) -> Result<(), AllocError>
-    requires { n < length fs.old }
-    ensures functions { OnOk result (functions_view fs.new ≡ with_body (functions_view fs.old) n locals.now (block_of (steps_view body))) }
-    ensures heads { OnOk result (seen (functions_view fs.new) ≡ seen (functions_view fs.old)) }
+// The function stands behind the others, and is seen.
+fn put(d: &mut Declared, f: CoreFn, head: Result<FnHead, CheckEnd>) -> Result<(), CheckEnd>
+    requires { Gives (λ h. h) head (Ok (head_of (length d.old.functions) (function_view f))) }
+    ensures is { OnOk result (d.new ≡ record {
+        env = record d.old.env { functions = d.old.env.functions ++ head_of (length d.old.functions) (function_view f) ∷ [] };
+        marks = d.old.marks;
+        functions = d.old.functions ++ f ∷ [] }) }
+    ensures end { Gives (λ u. u) result (Ok tt) }
 {
-    let f = with_parts(alloc, &fs.as_slice()[n], locals, body)?;
-    fs.set(n, f);
+    d.functions.push(f)?;
+    d.env.declare_function(head?)?;
     Ok(())
+}
+
+/// Declares a function behind the others. It never ends in a fault.
+pub fn push_function(alloc: Global, d: &mut Declared, f: CoreFn) -> Result<(), CheckEnd>
+    requires { Stands d.old }
+    ensures is { OnOk result (declarations d.new ≡ with_functions (declarations d.old) (functions_view d.old.functions ++ function_view f ∷ [])) }
+    ensures end { Gives (λ u. u) result (Ok tt) }
+    ensures stands { OnOk result (Stands d.new) }
+    ensures classes { OnOk result (d.new.env.classes ≡ d.old.env.classes) }
+{
+    let head = next_head(alloc, &d.functions, &f);
+    put(d, f, head)
+}
+
+// A function outside classes that no one declared before.
+fn push_new(
+    alloc: Global,
+    d: &mut Declared,
+    name: &Name,
+    signature: &Signature,
+) -> Result<(), CheckEnd>
+    requires { Stands d.old }
+    ensures is { OnOk result (declarations d.new ≡ with_functions (declarations d.old) (functions_view d.old.functions
+        ++ declared_function false name.now.text name.now.place signature.now.result signature.now.params ∷ [])) }
+    ensures end { Gives (λ u. u) result (Ok tt) }
+    ensures stands { OnOk result (Stands d.new) }
+{
+    let params = signature.params.as_slice();
+    let text = name.text.as_str();
+    let f = new_function(alloc, false, text, name.place, signature.result, params)?;
+    push_function(alloc, d, f)
+}
+
+/// Declares the function of a head, where it was not before.
+pub(crate) fn declare(
+    alloc: Global,
+    d: &mut Declared,
+    name: &Name,
+    signature: &Signature,
+) -> Result<(), CheckEnd>
+    requires { Stands d.old }
+    ensures is { Gives (λ u. declarations d.new) result (Ok (with_function (declarations d.old) name.now (heading_view signature.now))) }
+    ensures stands { OnOk result (Stands d.new) }
+{
+    let params = signature.params.as_slice();
+    match find(&d.env, d.functions.as_slice(), name.text.as_str(), params) {
+        Some(_) => Ok(()),
+        None => push_new(alloc, d, name, signature),
+    }
 }

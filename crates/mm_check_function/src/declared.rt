@@ -1,0 +1,14 @@
+//! What a unit has declared so far.
+
+use mm_core::tree::{CoreClass, CoreFn};
+use mm_scopes::env::Env;
+use sqlite_items::Items;
+
+/// What a unit has declared so far: what is seen of it, beside each class its mark, and its
+/// functions.
+#[derive(Drop)]
+pub struct Declared {
+    pub env: Env,
+    pub marks: Items<CoreClass>,
+    pub functions: Items<CoreFn>,
+}
