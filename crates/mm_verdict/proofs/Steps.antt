@@ -25,7 +25,7 @@ use Rattle.mm_core.specs.Units.{Checked}
 use Rattle.mm_simulate.specs.Simulates.{IsScalar, IsShallow}
 use Rattle.mm_classes.specs.Classes.{Class}
 use Rattle.mm_syntax.specs.Tree as t
-use Rattle.mm_check_unit.specs.Program.{declarations_of}
+use Rattle.mm_check_unit.specs.Parts.{declarations_of}
 use Rattle.mm_unit_typing.specs.Functions.{Declarations}
 use Rattle.mm_unit_typing.specs.Units.{UnitFaults, unit_of}
 use Rattle.mm_typing_valid.specs.Units.{NoClasses}

@@ -9,7 +9,7 @@ ghost use Rattle.mm_parse_unit.specs.Units.{IsTreeOf};
 ghost use Rattle.mm_simulate.specs.Simulates.{IsScalar, IsShallow};
 ghost use Rattle.mm_lower.specs.Written.{FewTemporaries};
 ghost use Rattle.mm_unit_typing.specs.Units.{UnitTypes, unit_of};
-ghost use Rattle.mm_check_unit.specs.Program.{declarations_of};
+ghost use Rattle.mm_check_unit.specs.Parts.{declarations_of};
 ghost use Rattle.mm_complete.specs.Complete.{IsComplete};
 ghost use Rattle.mm_syntax.specs.declared.form.Forms as form_set;
 ghost use Rattle.mm_verdict.specs.Verdict.{IsSound, file_of};

@@ -1,6 +1,6 @@
 use Rattle.std.proofs.Common.{◌≡◌, Some, None, map, sym, ◌∙◌, subst}
 use Rattle.mm_base.specs.declared.code.TheConstants.Code.{P4}
-use Rattle.mm_check_unit.specs.Program.{declarations_of}
+use Rattle.mm_check_unit.specs.Parts.{declarations_of}
 use Rattle.mm_core.specs.View.{function_view}
 use Rattle.mm_complete.specs.Complete.{HasMain, lack_in, lacking}
 use Rattle.mm_verdict.specs.Verdict.{file_of}
