@@ -1,8 +1,6 @@
 //! Statements without statements inside them, and the parts of the others.
 
-ghost use Rattle.std.specs.Prelude.{◌≡◌, ◌+◌, ◌++◌, [], ◌∷◌, List, ℕ, length, map, codes, not};
-ghost use Rattle.std.specs.Prelude.{true, if◌then◌else◌, Option, Some, None, Ok, OnOk};
-ghost use Rattle.mm_core.specs.Tree as k;
+ghost use Rattle.std.specs.Prelude.{◌≡◌, ◌++◌, [], ◌∷◌, if◌then◌else◌, Some, Ok, OnOk};
 ghost use Rattle.mm_core.specs.View.{expr_view, stmt_view};
 ghost use Rattle.mm_syntax.specs.View as t;
 ghost use Rattle.mm_checks.specs.Checks.{Gives};

@@ -1,8 +1,7 @@
 //! Statements. The recursion is as deep as statements stand in one another; a list of statements
 //! is a loop.
 
-ghost use Rattle.std.specs.Prelude.{◌≡◌, ◌++◌, [], length, OnOk};
-ghost use Rattle.mm_core.specs.View.{stmt_view};
+ghost use Rattle.std.specs.Prelude.{◌≡◌, OnOk};
 ghost use Rattle.mm_syntax.specs.View as t;
 ghost use Rattle.mm_syntax.specs.Tree as tree;
 ghost use Rattle.mm_unit_typing.specs.Scopes as scopes;
@@ -24,7 +23,7 @@ use mm_scopes::env::Env;
 use mm_syntax::expr::Expr;
 use mm_syntax::stmt::{ForStart, Stmt, StmtKind};
 use mm_unit_typing::here::Here;
-use sqlite_items::{Boxed, Items};
+use sqlite_items::Items;
 use std::alloc::Global;
 
 /// A statement, as the statements of the block that it is or in which it stands.
