@@ -1,21 +1,17 @@
 -- The number of a function that is declared already, and the heads of functions.
-use Rattle.std.proofs.Common.{◌≡◌, ℕ, zero, suc, ◌+◌, ◌<◌, ◌≤◌, Bool, true, false, List, [], ◌∷◌, ◌++◌, length, get_or, set, drop, map, refl, sym, ap, ◌∙◌, arith}
-use Rattle.std.specs.Prelude.{◌&&◌, cond, find, slice_get, is_some, Option, Some, None, option_map}
+use Rattle.std.proofs.Common.{◌≡◌, ℕ, zero, suc, ◌+◌, ◌<◌, ◌≤◌, Bool, true, false, List, [], ◌∷◌, ◌++◌, length, get_or, set, drop, refl, sym, ap, ◌∙◌, arith}
+use Rattle.std.specs.Prelude.{cond, find, slice_get, Option, Some, None, option_map}
 use Rattle.std.specs.List.{position_or_len}
 use Rattle.std.specs.Str.{bytes_eq}
-use Rattle.std.proofs.lemmas.Slice.Eq.{bytes_eq-Decides}
 use Rattle.std.proofs.lemmas.List.{drop_more, drop_all, length-map}
-use Rattle.std.proofs.lemmas.Option.{slice_get_within, slice_get_past, get_or_from_slice_get, slice_get-map, slice_get-get_or}
+use Rattle.std.proofs.lemmas.Option.{slice_get_within, slice_get_past, get_or_from_slice_get}
 use Rattle.mm_classes.specs.declared.class.Ty.{Ty}
-use Rattle.mm_core.specs.Heads.{type_code, same_types, types_of_params}
+use Rattle.mm_core.specs.Heads.{same_types, types_of_params}
 use Rattle.mm_core.specs.declared.tree.CoreFn.{CoreFn}
 use Rattle.mm_core.specs.Tree as k
 use Rattle.mm_core.specs.View.{function_view}
 use Rattle.mm_scopes.specs.declared.head.FnHead.{FnHead}
-use Rattle.mm_base.specs.declared.place.Place.{Place}
-use Rattle.mm_syntax.specs.declared.name.Name.{Name}
-use Rattle.mm_unit_typing.specs.Heads.{Heading}
-use Rattle.mm_unit_typing.specs.Functions.{Declarations, is_function, function_number, known, core_param, head_of, heads_from, declared_function, defined_with, with_function, with_body}
+use Rattle.mm_unit_typing.specs.Functions.{is_function, function_number, known, head_of, heads_from, defined_with, with_body}
 use Rattle.mm_check_function.specs.Known.{functions_view, found_in, has_params, number_in}
 
 -- ---- where a function stands
@@ -99,27 +95,3 @@ pub body_past : (fs : List k.Function) (n : ℕ) (in_class : Bool) (locals : Lis
 body_past [] n in_class locals body none = refl
 body_past (f ∷ fs) zero in_class locals body none = absurd (cc)
 body_past (f ∷ fs) (suc n) in_class locals body none = ap (λ gs. f ∷ gs) (body_past fs n in_class locals body none)
-
--- ---- the function at its place
-
-pub known_at : (gs : List CoreFn) (name : List ℕ) (params : List Ty) (n : ℕ) (f : CoreFn) → n ≡ function_number (functions_view gs) name params → n < length gs → f ≡ get_or gs n f → known (functions_view gs) name params ≡ Some (function_view f)
-known_at gs name params n f is low e = ap (slice_get (functions_view gs)) (sym is) ∙ (slice_get-map function_view gs n ∙ ap (option_map function_view) (slice_get-get_or gs n f low ∙ ap (λ g. Some g) (sym e)))
-
--- ---- a function that is declared
-
-some_within : {X : Type 0} (xs : List X) (n : ℕ) → n < length xs → is_some (slice_get xs n) ≡ true
-some_within [] n low = absurd (omega arith)
-some_within (x ∷ xs) zero low = refl
-some_within (x ∷ xs) (suc n) low = some_within xs n (omega arith)
-
-pub is_known_at : (gs : List CoreFn) (name : List ℕ) (params : List Ty) (n : ℕ) → n ≡ function_number (functions_view gs) name params → n < length gs → is_some (known (functions_view gs) name params) ≡ true
-is_known_at gs name params n is low =
-    let l = length-map gs function_view in
-    some_within (functions_view gs) (function_number (functions_view gs) name params) (omega (arith, is, l))
-
-module _ (d : Declarations) (name : Name) (h : Heading) where
-  pub with_known : is_some (known d.functions name.text h.params) ≡ true → d ≡ with_function d name h
-  with_known s = rw s refl
-
-  pub with_new : known d.functions name.text h.params ≡ None → record d { functions = d.functions ++ declared_function false name.text name.place h.result h.params ∷ [] } ≡ with_function d name h
-  with_new none = rw none refl

@@ -3,7 +3,6 @@ use Rattle.std.proofs.Common.{◌≡◌, ℕ, ◌+◌, ◌<◌, ◌≤◌, List,
 use Rattle.std.specs.Prelude.{Ok, Err}
 use Rattle.std.proofs.lemmas.List.{length-append, drop_more, drop_all}
 use Rattle.mm_classes.specs.declared.class.Ty.{Ty}
-use Rattle.mm_classes.specs.Classes.{Class}
 use Rattle.mm_syntax.specs.declared.decl.Param.{Param}
 use Rattle.mm_checks.specs.declared.CheckEnd.{CheckEnd}
 use Rattle.mm_checks.specs.declared.CheckEnd.TheVariants as ends

@@ -1,10 +1,8 @@
 -- What a unit has declared, when a function is declared, or defined.
 use Rattle.std.proofs.Common.{◌≡◌, ℕ, ◌+◌, ◌<◌, Bool, List, [], ◌∷◌, ◌++◌, length, get_or, set, refl, sym, ap, ◌∙◌, arith}
-use Rattle.std.specs.Prelude.{Option, None, Result, Ok, Err, OnOk}
+use Rattle.std.specs.Prelude.{None, Result, Ok, Err, OnOk}
 use Rattle.std.proofs.lemmas.List.{map-append, map-set, length-map, get_or-map}
-use Rattle.mm_classes.specs.Classes.{Class}
 use Rattle.mm_classes.specs.declared.class.Ty.{Ty}
-use Rattle.mm_core.specs.declared.tree.CoreClass.{CoreClass}
 use Rattle.mm_core.specs.declared.tree.CoreFn.{CoreFn}
 use Rattle.mm_core.specs.Tree as k
 use Rattle.mm_core.specs.View.{function_view}

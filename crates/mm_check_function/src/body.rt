@@ -87,7 +87,8 @@ fn check_steps(
     requires stands { Stands d.old }
     requires complete { IfSome class (IsComplete d.old.env.classes) }
     requires locals { locals.old ≡ this_of class ++ signature.now.params }
-    ensures is { Makes steps_view locals.new result (judge_body (declarations d.old) class (heading_view signature.now) params.now (t.stmt_view body.now)) }
+    ensures is { Makes steps_view locals.new result (judge_body (declarations d.old) class
+        (heading_view signature.now) params.now (t.stmt_view body.now)) }
     ensures same { OnOk result (d.new ≡ d.old) }
 {
     d.env.set_from(Context { class });
@@ -114,7 +115,8 @@ fn with_parts(
     locals: &[Ty],
     steps: Items<CoreStmt>,
 ) -> Result<CoreFn, AllocError>
-    ensures { IfOk result (λ g. function_view g ≡ defined_with in_class locals.now (block_of (steps_view steps)) (function_view f.now)) }
+    ensures { IfOk result (λ g. function_view g
+        ≡ defined_with in_class locals.now (block_of (steps_view steps)) (function_view f.now)) }
 {
     Ok(CoreFn {
         name: Text::from_str(alloc, f.name.as_str())?,
@@ -139,7 +141,8 @@ fn define_at(
     steps: Items<CoreStmt>,
 ) -> Result<(), AllocError>
     requires { n < length fs.old }
-    ensures { OnOk result (functions_view fs.new ≡ with_body (functions_view fs.old) n in_class locals.now (block_of (steps_view steps))) }
+    ensures { OnOk result (functions_view fs.new
+        ≡ with_body (functions_view fs.old) n in_class locals.now (block_of (steps_view steps))) }
 {
     let f = with_parts(alloc, &fs.as_slice()[n], in_class, locals, steps)?;
     fs.set(n, f);
@@ -157,8 +160,10 @@ fn define(
     steps: Items<CoreStmt>,
 ) -> Result<(), AllocError>
     requires { Stands d.old }
-    ensures is { OnOk result (declarations d.new ≡ with_functions (declarations d.old) (with_body (functions_view d.old.functions)
-        (function_number (functions_view d.old.functions) name.now params.now) in_class locals.now (block_of (steps_view steps)))) }
+    ensures is { OnOk result (declarations d.new ≡ with_functions (declarations d.old)
+        (with_body (functions_view d.old.functions)
+        (function_number (functions_view d.old.functions) name.now params.now)
+        in_class locals.now (block_of (steps_view steps)))) }
     ensures stands { OnOk result (Stands d.new) }
 {
     match find(&d.env, d.functions.as_slice(), name, params) {
@@ -190,8 +195,9 @@ pub fn check_body(
 ) -> Result<(), CheckEnd>
     requires stands { Stands d.old }
     requires complete { IfSome owner.class (IsComplete d.old.env.classes) }
-    ensures is { Gives (λ u. declarations d.new) result (judge_defined (declarations d.old) owner.class owner.in_class name.now
-        (heading_view signature.now) params.now (t.stmt_view body.now)) }
+    ensures is { Gives (λ u. declarations d.new) result (judge_defined (declarations d.old)
+        owner.class owner.in_class name.now (heading_view signature.now) params.now
+        (t.stmt_view body.now)) }
     ensures stands { OnOk result (Stands d.new) }
     ensures classes { OnOk result (d.new.env.classes ≡ d.old.env.classes) }
 {

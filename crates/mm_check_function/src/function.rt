@@ -11,7 +11,7 @@ use crate::body::{Owner, check_body};
 use crate::declared::Declared;
 use crate::head::check_head;
 use crate::known::declare;
-use crate::member::{check_member_head, qualify};
+use crate::member::check_member_head;
 use crate::param::unbuilt_at;
 use mm_base::place::Place;
 use mm_checks::CheckEnd;
@@ -29,7 +29,8 @@ fn check_declaration(
     x: &Head,
 ) -> Result<(), CheckEnd>
     requires { Stands d.old }
-    ensures is { Gives (λ u. declarations d.new) result (judge_function (declarations d.old) (tree.declaration place x.now)) }
+    ensures is { Gives (λ u. declarations d.new) result
+        (judge_function (declarations d.old) (tree.declaration place x.now)) }
     ensures stands { OnOk result (Stands d.new) }
     ensures classes { OnOk result (d.new.env.classes ≡ d.old.env.classes) }
 {
@@ -47,7 +48,8 @@ fn check_definition(
     body: &Stmt,
 ) -> Result<(), CheckEnd>
     requires { Stands d.old }
-    ensures is { Gives (λ u. declarations d.new) result (judge_function (declarations d.old) (tree.definition place x.now (t.stmt_view body.now))) }
+    ensures is { Gives (λ u. declarations d.new) result (judge_function (declarations d.old)
+        (tree.definition place x.now (t.stmt_view body.now))) }
     ensures stands { OnOk result (Stands d.new) }
     ensures classes { OnOk result (d.new.env.classes ≡ d.old.env.classes) }
 {
@@ -57,8 +59,9 @@ fn check_definition(
         class: None,
         in_class: false,
     };
+    let name = x.name.text.as_str();
     let params = x.params.list.as_slice();
-    check_body(alloc, d, owner, x.name.text.as_str(), &signature, params, body)
+    check_body(alloc, d, owner, name, &signature, params, body)
 }
 
 // A definition of a member function outside its class.
@@ -72,19 +75,19 @@ fn check_member_definition(
     body: &Stmt,
 ) -> Result<(), CheckEnd>
     requires { Stands d.old }
-    ensures is { Gives (λ u. declarations d.new) result
-        (judge_function (declarations d.old) (tree.member_definition place class.now x.now (t.stmt_view body.now))) }
+    ensures is { Gives (λ u. declarations d.new) result (judge_function (declarations d.old)
+        (tree.member_definition place class.now x.now (t.stmt_view body.now))) }
     ensures stands { OnOk result (Stands d.new) }
     ensures classes { OnOk result (d.new.env.classes ≡ d.old.env.classes) }
 {
     let member = check_member_head(alloc, d, class, x)?;
-    let name = qualify(alloc, class.text.as_str(), x.name.text.as_str())?;
     let owner = Owner {
         class: Some(member.class),
         in_class: false,
     };
+    let name = member.name.as_str();
     let params = x.params.list.as_slice();
-    check_body(alloc, d, owner, name.as_str(), &member.signature, params, body)
+    check_body(alloc, d, owner, name, &member.signature, params, body)
 }
 
 /// A function of the unit, behind those that are declared before it: it is put behind them, or
@@ -92,7 +95,8 @@ fn check_member_definition(
 #[tactic(auto, unfolding(mm_unit_typing::specs::JudgeUnit::judge_function))]
 pub fn check_function(alloc: Global, d: &mut Declared, x: &FnDecl) -> Result<(), CheckEnd>
     requires { Stands d.old }
-    ensures is { Gives (λ u. declarations d.new) result (judge_function (declarations d.old) (t.function_view x.now)) }
+    ensures is { Gives (λ u. declarations d.new) result
+        (judge_function (declarations d.old) (t.function_view x.now)) }
     ensures stands { OnOk result (Stands d.new) }
     ensures classes { OnOk result (d.new.env.classes ≡ d.old.env.classes) }
 {

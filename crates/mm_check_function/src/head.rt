@@ -13,6 +13,7 @@ use crate::known::may_declare;
 use crate::named::{named_type, param_type};
 use crate::param::check_params;
 use mm_base::code::Code;
+use mm_base::text::Text;
 use mm_check_stmt::declare::{need_yours, want_type};
 use mm_check_stmt::types::{Specified, check_type, type_with};
 use mm_checks::{CheckEnd, need};
@@ -35,6 +36,8 @@ pub struct Signature {
 #[derive(Drop)]
 pub struct MemberSignature {
     pub class: ClassId,
+    /// The name of the function, with its class before it.
+    pub name: Text,
     pub signature: Signature,
 }
 
@@ -63,9 +66,9 @@ pub fn signature_of(alloc: Global, env: &Env, x: &Head) -> Result<Signature, All
 
 // ---- the check of a head
 
-/// A head's own part, behind its result and its parameters: whether it fits beside what is declared,
-/// its result's type, its name, and how many parameters there are. A declarator without a mark
-/// begins with `start`.
+/// A head's own part, behind its result and its parameters: whether it fits beside what is
+/// declared, its result's type, its name, and how many parameters there are. A declarator without a
+/// mark begins with `start`.
 #[tactic(auto, unfolding(mm_unit_typing::specs::JudgeHeads::judge_own_head))]
 pub fn check_own_head(
     alloc: Global,
@@ -75,7 +78,8 @@ pub fn check_own_head(
     words: &Specified,
     params: Items<Ty>,
 ) -> Result<Signature, CheckEnd>
-    ensures { Gives heading_view result (judges.judge_own_head fits start.now x.now (specified_view words.now) params) }
+    ensures { Gives heading_view result
+        (judges.judge_own_head fits start.now x.now (specified_view words.now) params) }
 {
     let name = x.name.text.as_str();
     need(alloc, fits, Code::S2, x.name.place, name)?;

@@ -73,8 +73,8 @@ fn found(env: &Env, name: &str, params: &[Ty]) -> Option<u32>
 /// The place of the function that is declared with this name and these parameters.
 pub fn find(env: &Env, fs: &[CoreFn], name: &str, params: &[Ty]) -> Option<usize>
     requires { Sees env.now fs.now }
-    ensures { MatchOption result (known (functions_view fs.now) name.now params.now ≡ None)
-        (λ n. (n ≡ function_number (functions_view fs.now) name.now params.now) × (n < length fs.now)) }
+    ensures { MatchOption result (known (functions_view fs.now) name.now params.now ≡ None) (λ n.
+        (n ≡ function_number (functions_view fs.now) name.now params.now) × (n < length fs.now)) }
 {
     match found(env, name, params) {
         None => None,
@@ -101,7 +101,8 @@ pub(crate) fn may_declare(
     params: &[Ty],
 ) -> bool
     requires { Stands d.now }
-    ensures { result ≡ functions.may_declare (functions_view d.now.functions) name.now ty params.now defines }
+    ensures { result
+        ≡ functions.may_declare (functions_view d.now.functions) name.now ty params.now defines }
 {
     let fs = d.functions.as_slice();
     match find(&d.env, fs, name, params) {
@@ -135,7 +136,8 @@ pub fn new_function(
     ty: Ty,
     params: &[Ty],
 ) -> Result<CoreFn, AllocError>
-    ensures { IfOk result (λ f. function_view f ≡ declared_function member name.now place ty params.now) }
+    ensures { IfOk result (λ f. function_view f
+        ≡ declared_function member name.now place ty params.now) }
 {
     Ok(CoreFn {
         name: Text::from_str(alloc, name)?,
@@ -207,9 +209,13 @@ fn next_head(alloc: Global, fs: &Items<CoreFn>, f: &CoreFn) -> Result<FnHead, Ch
 fn put(d: &mut Declared, f: CoreFn, head: Result<FnHead, CheckEnd>) -> Result<(), CheckEnd>
     requires { Gives (λ h. h) head (Ok (head_of (length d.old.functions) (function_view f))) }
     ensures is { OnOk result (d.new ≡ record {
-        env = record d.old.env { functions = d.old.env.functions ++ head_of (length d.old.functions) (function_view f) ∷ [] };
-        marks = d.old.marks;
-        functions = d.old.functions ++ f ∷ [] }) }
+      env = record d.old.env {
+        functions = d.old.env.functions
+            ++ head_of (length d.old.functions) (function_view f) ∷ [];
+      };
+      marks = d.old.marks;
+      functions = d.old.functions ++ f ∷ [];
+    }) }
     ensures end { Gives (λ u. u) result (Ok tt) }
 {
     d.functions.push(f)?;
@@ -220,7 +226,8 @@ fn put(d: &mut Declared, f: CoreFn, head: Result<FnHead, CheckEnd>) -> Result<()
 /// Declares a function behind the others. It never ends in a fault.
 pub fn push_function(alloc: Global, d: &mut Declared, f: CoreFn) -> Result<(), CheckEnd>
     requires { Stands d.old }
-    ensures is { OnOk result (declarations d.new ≡ with_functions (declarations d.old) (functions_view d.old.functions ++ function_view f ∷ [])) }
+    ensures is { OnOk result (declarations d.new ≡ with_functions (declarations d.old)
+        (functions_view d.old.functions ++ function_view f ∷ [])) }
     ensures end { Gives (λ u. u) result (Ok tt) }
     ensures stands { OnOk result (Stands d.new) }
     ensures classes { OnOk result (d.new.env.classes ≡ d.old.env.classes) }
@@ -237,8 +244,9 @@ fn push_new(
     signature: &Signature,
 ) -> Result<(), CheckEnd>
     requires { Stands d.old }
-    ensures is { OnOk result (declarations d.new ≡ with_functions (declarations d.old) (functions_view d.old.functions
-        ++ declared_function false name.now.text name.now.place signature.now.result signature.now.params ∷ [])) }
+    ensures is { OnOk result (declarations d.new ≡ with_functions (declarations d.old)
+        (functions_view d.old.functions ++ declared_function false name.now.text name.now.place
+        signature.now.result signature.now.params ∷ [])) }
     ensures end { Gives (λ u. u) result (Ok tt) }
     ensures stands { OnOk result (Stands d.new) }
 {
@@ -256,7 +264,8 @@ pub(crate) fn declare(
     signature: &Signature,
 ) -> Result<(), CheckEnd>
     requires { Stands d.old }
-    ensures is { Gives (λ u. declarations d.new) result (Ok (with_function (declarations d.old) name.now (heading_view signature.now))) }
+    ensures is { Gives (λ u. declarations d.new) result
+        (Ok (with_function (declarations d.old) name.now (heading_view signature.now))) }
     ensures stands { OnOk result (Stands d.new) }
 {
     let params = signature.params.as_slice();

@@ -56,7 +56,8 @@ fn find_complete(env: &Env, name: &str) -> Option<ClassId>
 }
 
 fn want_complete(alloc: Global, env: &Env, name: &Name) -> Result<ClassId, CheckEnd>
-    ensures is { Gives (λ c. c) result (wanted (objects.complete_named env.now.classes name.now.text) (incomplete_class name.now)) }
+    ensures is { Gives (λ c. c) result
+        (wanted (objects.complete_named env.now.classes name.now.text) (incomplete_class name.now)) }
     ensures complete { IfOk result (IsComplete env.now.classes) }
 {
     match find_complete(env, name.text.as_str()) {
@@ -87,7 +88,9 @@ pub(crate) fn check_member_head(
     x: &Head,
 ) -> Result<MemberSignature, CheckEnd>
     requires { Stands d.old }
-    ensures is { Gives member_view result (judges.judge_member_head (declarations d.old) class.now x.now) }
+    ensures is { Gives member_view result
+        (judges.judge_member_head (declarations d.old) class.now x.now) }
+    ensures name { IfOk result (λ m. m.name ≡ qualified class.now.text x.now.name.text) }
     ensures same { OnOk result (d.new ≡ d.old) }
     ensures complete { IfOk result (λ m. IsComplete d.old.env.classes m.class) }
 {
@@ -100,5 +103,9 @@ pub(crate) fn check_member_head(
     let known = is_known(d, name.as_str(), params.as_slice());
     let signature = check_own_head(alloc, fits, class, x, &words, params)?;
     need(alloc, known, Code::S21, x.name.place, x.name.text.as_str())?;
-    Ok(MemberSignature { class: owner, signature })
+    Ok(MemberSignature {
+        class: owner,
+        name,
+        signature,
+    })
 }

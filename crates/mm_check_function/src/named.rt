@@ -25,7 +25,8 @@ fn class_words(class: Option<ClassId>) -> Specified
 
 // What the words of a type name.
 fn words_of(env: &Env, kind: &TypeNameKind) -> Specified
-    ensures { specified_view result ≡ spec.specified_or_void (spec.specified env.now.classes kind.now) }
+    ensures { specified_view result
+        ≡ spec.specified_or_void (spec.specified env.now.classes kind.now) }
 {
     match kind {
         TypeNameKind::Void => Specified::Scalar(Ty::Void),

@@ -130,7 +130,8 @@ fn local_at(first: u32, i: usize) -> Result<u32, CheckEnd>
 
 // The local has this name, where there is one.
 fn declare_named(env: &mut Env, name: &Option<Name>, ty: Ty, local: u32) -> Result<(), AllocError>
-    ensures { OnOk result (env.new ≡ inside env.old (env.old.vars ++ parameter_named name.now ty local)) }
+    ensures { OnOk result (env.new
+        ≡ inside env.old (env.old.vars ++ parameter_named name.now ty local)) }
 {
     if let Some(name) = name {
         env.declare(name.text.as_str(), ty, local)?;
@@ -141,7 +142,8 @@ fn declare_named(env: &mut Env, name: &Option<Name>, ty: Ty, local: u32) -> Resu
 // The i-th parameter is a variable, where it has a name.
 fn declare_param(env: &mut Env, first: u32, i: usize, q: &Param) -> Result<(), CheckEnd>
     ensures is { Gives (λ u. u) result (Ok tt) }
-    ensures vars { OnOk result (env.new ≡ inside env.old (env.old.vars ++ parameter env.old.classes (first + i) q.now)) }
+    ensures vars { OnOk result (env.new
+        ≡ inside env.old (env.old.vars ++ parameter env.old.classes (first + i) q.now)) }
 {
     let local = local_at(first, i)?;
     let ty = param_type(env, q);
@@ -153,7 +155,8 @@ fn declare_param(env: &mut Env, first: u32, i: usize, q: &Param) -> Result<(), C
 /// are asked was asked before.
 pub(crate) fn declare_params(env: &mut Env, first: u32, params: &[Param]) -> Result<(), CheckEnd>
     ensures is { Gives (λ u. u) result (Ok tt) }
-    ensures vars { OnOk result (env.new ≡ inside env.old (env.old.vars ++ parameters_from env.old.classes first params.now)) }
+    ensures vars { OnOk result (env.new
+        ≡ inside env.old (env.old.vars ++ parameters_from env.old.classes first params.now)) }
 {
     for i in 0..params.len() {
         declare_param(env, first, i, &params[i])?;
@@ -171,8 +174,10 @@ fn push_param(
     types: &mut Items<Ty>,
     q: &Param,
 ) -> Result<(), CheckEnd>
-    ensures is { Gives (λ u. types.new) result (added types.old (judges.judge_param env.old.classes env.old.vars q.now)) }
-    ensures vars { OnOk result (env.new ≡ inside env.old (env.old.vars ++ parameter env.old.classes (first + length types.old) q.now)) }
+    ensures is { Gives (λ u. types.new) result
+        (added types.old (judges.judge_param env.old.classes env.old.vars q.now)) }
+    ensures vars { OnOk result (env.new ≡ inside env.old (env.old.vars
+        ++ parameter env.old.classes (first + length types.old) q.now)) }
 {
     let ty = check_param(alloc, env, q)?;
     declare_param(env, first, types.len(), q)?;
@@ -188,7 +193,8 @@ pub fn check_params(
     params: &[Param],
 ) -> Result<Items<Ty>, CheckEnd>
     requires { env.old.vars ≡ [] }
-    ensures is { Gives (λ ts. ts) result (judges.judge_params env.old.classes first [] params.now) }
+    ensures is { Gives (λ ts. ts) result
+        (judges.judge_params env.old.classes first [] params.now) }
     ensures env { OnOk result (env.new ≡ env.old) }
 {
     let mut types = Items::new(alloc);
