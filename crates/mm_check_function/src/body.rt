@@ -10,7 +10,8 @@ ghost use Rattle.mm_unit_typing.specs.Functions.{defined_with, function_number, 
 ghost use Rattle.mm_unit_typing.specs.Made.{block_of};
 ghost use Rattle.mm_unit_typing.specs.JudgeHeads.{judge_body};
 ghost use Rattle.mm_check_stmt.specs.Results.{Makes, steps_view};
-ghost use Rattle.mm_check_function.specs.Known.{declarations, functions_view, heading_view, judge_defined, with_functions, Stands};
+ghost use Rattle.mm_check_function.specs.Known.{declarations, functions_view, heading_view};
+ghost use Rattle.mm_check_function.specs.Known.{judge_defined, with_functions, Stands};
 
 use crate::declared::Declared;
 use crate::head::Signature;

@@ -1,12 +1,15 @@
 //! The functions that are declared.
 
-ghost use Rattle.std.specs.Prelude.{◌≡◌, ◌<◌, ◌++◌, [], ◌∷◌, length, map, false, Some, None, Ok, IfOk, OnOk, MatchOption};
+ghost use Rattle.std.specs.Prelude.{◌≡◌, ◌<◌, ◌++◌, [], ◌∷◌, length, map, false, Some, None, Ok};
+ghost use Rattle.std.specs.Prelude.{IfOk, OnOk, MatchOption};
 ghost use Rattle.mm_core.specs.Heads.{same_type, same_types, type_code, types_of_params};
 ghost use Rattle.mm_core.specs.View.{function_view};
 ghost use Rattle.mm_checks.specs.Checks.{Gives};
 ghost use Rattle.mm_unit_typing.specs.Functions as functions;
-ghost use Rattle.mm_unit_typing.specs.Functions.{function_number, head_of, known, declared_function, never, with_function};
-ghost use Rattle.mm_check_function.specs.Known.{functions_view, declarations, with_functions, found_in, heading_view, Sees, Stands};
+ghost use Rattle.mm_unit_typing.specs.Functions.{function_number, head_of, known};
+ghost use Rattle.mm_unit_typing.specs.Functions.{declared_function, never, with_function};
+ghost use Rattle.mm_check_function.specs.Known.{functions_view, declarations, with_functions};
+ghost use Rattle.mm_check_function.specs.Known.{found_in, heading_view, Sees, Stands};
 
 use crate::declared::Declared;
 use crate::head::Signature;

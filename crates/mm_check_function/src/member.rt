@@ -57,7 +57,8 @@ fn find_complete(env: &Env, name: &str) -> Option<ClassId>
 
 fn want_complete(alloc: Global, env: &Env, name: &Name) -> Result<ClassId, CheckEnd>
     ensures is { Gives (λ c. c) result
-        (wanted (objects.complete_named env.now.classes name.now.text) (incomplete_class name.now)) }
+        (wanted (objects.complete_named env.now.classes name.now.text)
+        (incomplete_class name.now)) }
     ensures complete { IfOk result (IsComplete env.now.classes) }
 {
     match find_complete(env, name.text.as_str()) {
