@@ -71,12 +71,12 @@ module _ (g : List Class) (c : ℕ) (bs : List Base) (ms : List Member) (ok : Ar
       let n = long bs in
       no_earlier (classes_of bs) i 0 ok.1 (omega arith)
       (subst (λ z. Has z (get_or (classes_of bs) i 0)) (classes_taken bs i)
-      (subst (Has (classes_of (take i bs))) (sym (class_at_map bs i l)) h.2.1))
+      (subst (Has (classes_of (take i bs))) (sym (class_at_map bs i l)) h.2))
 
   pub never_unknown : (i : ℕ) → Ends g c bs ms (end.Unknown i) → ⊥
   never_unknown i h =
       let k = ok.0 (base_at bs i) (has_at bs i _ h.0) in
-      let z : true ≡ false = sym k ∙ h.2.1 in
+      let z : true ≡ false = sym k ∙ h.2 in
       cc
 
 -- a complete class is declared

@@ -4,3 +4,4 @@ pub mod BaseLists
 pub mod Members
 pub mod BodyLists
 pub mod Naming
+pub mod Defining

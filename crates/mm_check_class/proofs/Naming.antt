@@ -1,5 +1,5 @@
 -- Names of classes and of their functions, and marks.
-use Rattle.std.proofs.Common.{◌≡◌, ℕ, zero, suc, ◌+◌, ◌<◌, ◌≤◌, Bool, true, false, not, ◌&&◌, ◌||◌, List, [], ◌∷◌, ◌++◌, length, get_or, map, take, refl, sym, ap, ◌∙◌, arith}
+use Rattle.std.proofs.Common.{◌≡◌, ℕ, zero, suc, ◌+◌, ◌<◌, ◌≤◌, Bool, true, false, not, ◌&&◌, ◌||◌, List, [], ◌∷◌, ◌++◌, length, get_or, map, take, refl, sym, ap, ◌∙◌, arith, append_assoc}
 use Rattle.std.specs.Prelude.{nat_eq, slice_set, filter}
 use Rattle.std.specs.List.{list_any}
 use Rattle.std.specs.Str.{bytes_eq}
@@ -9,9 +9,10 @@ use Rattle.mm_classes.specs.declared.class.Member.{Member}
 use Rattle.mm_core.specs.declared.tree.CoreClass.{CoreClass}
 use Rattle.mm_core.specs.Tree as k
 use Rattle.mm_scopes.specs.Names.{named}
-use Rattle.mm_unit_typing.specs.Functions.{head_of, heads_from}
+use Rattle.mm_unit_typing.specs.Functions.{Declarations, head_of, heads_from}
 use Rattle.mm_unit_typing.specs.Members.{is_called, method_function, method_functions}
 use Rattle.mm_unit_typing.specs.Classes.{with_tokens}
+use Rattle.mm_check_function.specs.Known.{with_functions}
 use Rattle.mm_check_class.proofs.Looking.{is_none, none_more}
 
 -- ---- functions
@@ -49,3 +50,14 @@ pub tokens_past : (ms : List CoreClass) (n : ℕ) (text : List ℕ) → length m
 tokens_past [] n text l = refl
 tokens_past (x ∷ ms) zero text l = absurd (omega arith)
 tokens_past (x ∷ ms) (suc n) text l = ap (λ z. x ∷ z) (tokens_past ms n text (omega arith))
+
+-- ---- functions behind others
+
+pub functions_after : (before now next : Declarations) (class : List ℕ) (ms : List Member) (i : ℕ) (m : Member) → m ≡ get_or ms i m → i < length ms
+    → now ≡ with_functions before (before.functions ++ method_functions class (take i ms))
+    → next ≡ with_functions now (now.functions ++ method_functions class (m ∷ []))
+    → next ≡ with_functions before (before.functions ++ method_functions class (take (i + 1) ms))
+functions_after before now next class ms i m is low e f =
+    f ∙ ap (λ (d : Declarations). with_functions d (d.functions ++ method_functions class (m ∷ []))) e
+    ∙ ap (with_functions before)
+    (append_assoc before.functions (method_functions class (take i ms)) (method_functions class (m ∷ [])) ∙ ap (λ z. before.functions ++ z) (sym (functions_next class ms i m is low)))

@@ -11,10 +11,11 @@ use Rattle.mm_core.specs.Heads.{same_types}
 use Rattle.mm_scopes.specs.declared.head.FnHead.{FnHead}
 use Rattle.mm_scopes.specs.Names.{named}
 use Rattle.mm_syntax.specs.declared.name.Name.{Name}
-use Rattle.mm_checks.specs.Checks.{Checked, ◌>>=◌, demand}
+use Rattle.mm_syntax.specs.Tree.{Item}
+use Rattle.mm_checks.specs.Checks.{Checked, ◌>>=◌}
 use Rattle.mm_unit_typing.specs.Functions.{Declarations}
-use Rattle.mm_unit_typing.specs.Classes.{is_new_class, is_within_limits, past_limit, completed}
-use Rattle.mm_unit_typing.specs.JudgeClasses.{judge_own_class}
+use Rattle.mm_unit_typing.specs.Classes.{is_new_class, is_within_limits, completed}
+use Rattle.mm_unit_typing.specs.JudgeClasses.{judge_own_class, judge_bodies}
 
 -- ---- lists
 
@@ -36,16 +37,9 @@ has_overload fs name params = list_any (λ (h : FnHead). same_types h.params par
 
 -- ---- the class itself
 
--- the class complete, where it is within the limits
-abbrev pub limited : Declarations → ℕ → Name → List Base → List Member → List ℕ
+-- what follows the bases and the members of a class: the class itself, and the bodies in it
+abbrev pub judge_rest : Declarations → ℕ → Name → List Base → List Member → List Item → List ℕ
     → Checked Declarations
-limited d c name bs ms text = do
-  u ← demand (is_within_limits d.classes c bs ms) (past_limit name)
-  Ok (completed d c name bs ms text)
-
--- the class itself, and it complete
-abbrev pub judge_complete : Declarations → ℕ → Name → List Base → List Member → List ℕ
-    → Checked Declarations
-judge_complete d c name bs ms text = do
+judge_rest d c name bs ms items text = do
   u ← judge_own_class (is_new_class d c name) (is_within_limits d.classes c bs ms) name
-  Ok (completed d c name bs ms text)
+  judge_bodies (completed d c name bs ms text) c name items

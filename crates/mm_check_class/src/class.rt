@@ -7,6 +7,7 @@ ghost use Rattle.mm_checks.specs.Checks.{Gives, demand};
 ghost use Rattle.mm_unit_typing.specs.Classes as classes;
 ghost use Rattle.mm_unit_typing.specs.JudgeClasses as judges;
 ghost use Rattle.mm_check_function.specs.Known.{declarations, Stands};
+ghost use Rattle.mm_check_class.specs.Parts.{AreBases, AreMembers, judge_rest};
 
 use crate::bases::check_bases;
 use crate::bodies::check_bodies;
@@ -19,7 +20,7 @@ use mm_base::place::Place;
 use mm_check_function::declared::Declared;
 use mm_check_stmt::declare::need_yours;
 use mm_checks::{CheckEnd, need};
-use mm_classes::class::Access;
+use mm_classes::class::{Access, Base, Member};
 use mm_classes::id::ClassId;
 use mm_scopes::env::Env;
 use mm_syntax::decl::{Base as BaseName, ClassDecl, ClassDeclKind, Member as Item};
@@ -61,6 +62,30 @@ fn check_declaration(
     need_few(alloc, &d.env, name)
 }
 
+// What follows its bases and its members: the class itself, and the bodies in it.
+fn check_rest(
+    alloc: Global,
+    d: &mut Declared,
+    class: ClassId,
+    name: &Name,
+    bases: &[Base],
+    members: &[Member],
+    items: &[Item],
+    text: &str,
+) -> Result<(), CheckEnd>
+    requires stands { Stands d.old }
+    requires here { class < length d.old.env.classes }
+    requires bases { AreBases d.old.env.classes bases.now }
+    requires members { AreMembers d.old.env.classes members.now }
+    ensures is { Gives (λ u. declarations d.new) result (judge_rest (declarations d.old) class
+        name.now bases.now members.now (map t.item_view items.now) text.now) }
+    ensures stands { OnOk result (Stands d.new) }
+    ensures few { OnOk result (length d.new.env.classes ≤ 1024) }
+{
+    complete_class(alloc, d, class, name, bases, members, text)?;
+    check_bodies(alloc, d, class, name, items)
+}
+
 // A definition of the class of this number, which is declared.
 #[tactic(auto, unfolding(mm_unit_typing::specs::JudgeClasses::judge_definition))]
 fn check_definition(
@@ -83,8 +108,9 @@ fn check_definition(
 {
     let bases = check_bases(alloc, &d.env, access, bases)?;
     let members = check_items(alloc, &mut d.env, name.text.as_str(), access, items)?;
-    complete_class(alloc, d, class, name, bases.as_slice(), members.as_slice(), text)?;
-    check_bodies(alloc, d, class, name, items)
+    let bases = bases.as_slice();
+    let members = members.as_slice();
+    check_rest(alloc, d, class, name, bases, members, items, text)
 }
 
 /// A class that is declared or defined, behind what the unit has declared.

@@ -8,8 +8,9 @@ ghost use Rattle.mm_typing.specs.Calls.{qualified};
 ghost use Rattle.mm_unit_typing.specs.Functions.{declared_function};
 ghost use Rattle.mm_unit_typing.specs.Classes as classes;
 ghost use Rattle.mm_unit_typing.specs.Members as methods;
+ghost use Rattle.mm_unit_typing.specs.JudgeClasses.{judge_own_class};
 ghost use Rattle.mm_check_function.specs.Known.{declarations, functions_view, with_functions, Stands};
-ghost use Rattle.mm_check_class.specs.Parts.{AreBases, AreMembers, judge_complete, limited};
+ghost use Rattle.mm_check_class.specs.Parts.{AreBases, AreMembers};
 
 use crate::words::{destructor_name, qualify};
 use mm_base::code::Code;
@@ -214,8 +215,10 @@ fn complete(
     requires open { (graphs.class_at d.old.env.classes class).complete ≡ false }
     requires bases { AreBases d.old.env.classes bases.now }
     requires members { AreMembers d.old.env.classes members.now }
-    ensures is { Gives (λ u. declarations d.new) result (limited (declarations d.old) class name.now
-        bases.now members.now text.now) }
+    ensures own { Gives (λ u. u) result (demand (classes.is_within_limits d.old.env.classes class
+        bases.now members.now) (classes.past_limit name.now)) }
+    ensures is { OnOk result (declarations d.new ≡ classes.completed (declarations d.old) class
+        name.now bases.now members.now text.now) }
     ensures stands { OnOk result (Stands d.new) }
     ensures few { OnOk result (length d.new.env.classes ≤ 1024) }
     ensures complete { OnOk result (graphs.IsComplete d.new.env.classes class) }
@@ -241,7 +244,10 @@ pub fn complete_class(
     requires here { class < length d.old.env.classes }
     requires bases { AreBases d.old.env.classes bases.now }
     requires members { AreMembers d.old.env.classes members.now }
-    ensures is { Gives (λ u. declarations d.new) result (judge_complete (declarations d.old) class
+    ensures own { Gives (λ u. u) result (judge_own_class
+        (classes.is_new_class (declarations d.old) class name.now)
+        (classes.is_within_limits d.old.env.classes class bases.now members.now) name.now) }
+    ensures is { OnOk result (declarations d.new ≡ classes.completed (declarations d.old) class
         name.now bases.now members.now text.now) }
     ensures stands { OnOk result (Stands d.new) }
     ensures few { OnOk result (length d.new.env.classes ≤ 1024) }
