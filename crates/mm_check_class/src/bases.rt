@@ -27,7 +27,11 @@ fn find_complete(env: &Env, name: &str) -> Option<ClassId>
 {
     match env.find_class(name) {
         None => None,
-        Some(class) => if env.graph().is_complete(class) { Some(class) } else { None },
+        Some(class) => if env.graph().is_complete(class) {
+            Some(class)
+        } else {
+            None
+        },
     }
 }
 

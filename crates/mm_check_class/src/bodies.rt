@@ -1,6 +1,6 @@
 // The bodies in a class.
 
-ghost use Rattle.std.specs.Prelude.{◌≡◌, map, Some, OnOk};
+ghost use Rattle.std.specs.Prelude.{◌≡◌, map, OnOk};
 ghost use Rattle.mm_classes.specs.Classes.{IsComplete};
 ghost use Rattle.mm_syntax.specs.View as t;
 ghost use Rattle.mm_syntax.specs.Tree as tree;
@@ -19,7 +19,7 @@ use mm_syntax::name::Name;
 use mm_syntax::stmt::Stmt;
 use std::alloc::Global;
 
-// The body of a member function, which sees the whole class.
+// The body of a member function, where it has one. It sees the whole class.
 #[tactic(auto, unfolding(mm_unit_typing::specs::JudgeClasses::judge_method_body))]
 fn check_method_body(
     alloc: Global,
@@ -27,15 +27,18 @@ fn check_method_body(
     class: ClassId,
     name: &Name,
     x: &Head,
-    body: &Stmt,
+    body: &Option<Stmt>,
 ) -> Result<(), CheckEnd>
     requires stands { Stands d.old }
     requires complete { IsComplete d.old.env.classes class }
     ensures is { Gives (λ u. declarations d.new) result (judges.judge_method_body
-        (declarations d.old) class name.now x.now (Some (t.stmt_view body.now))) }
+        (declarations d.old) class name.now x.now (t.maybe_stmt_view body.now)) }
     ensures stands { OnOk result (Stands d.new) }
     ensures classes { OnOk result (d.new.env.classes ≡ d.old.env.classes) }
 {
+    let Some(body) = body else {
+        return Ok(());
+    };
     let signature = signature_of(alloc, &d.env, x)?;
     let owner = Owner {
         class: Some(class),
@@ -46,8 +49,8 @@ fn check_method_body(
     check_body(alloc, d, owner, full.as_str(), &signature, params, body)
 }
 
-// The body of a member function, where it has one.
-#[tactic(auto, unfolding(mm_unit_typing::specs::JudgeClasses::judge_method_body, mm_unit_typing::specs::JudgeClasses::judge_item_body))]
+// The body in a function of the class, where there is one.
+#[tactic(auto, unfolding(mm_unit_typing::specs::JudgeClasses::judge_item_body))]
 fn check_function_body(
     alloc: Global,
     d: &mut Declared,
@@ -63,11 +66,8 @@ fn check_function_body(
     ensures classes { OnOk result (d.new.env.classes ≡ d.old.env.classes) }
 {
     match &x.kind {
-        FnDeclKind::Method(_, head, Some(body)) => {
-            check_method_body(alloc, d, class, name, head, body)
-        }
-        FnDeclKind::Method(_, _, None)
-        | FnDeclKind::Declaration(_)
+        FnDeclKind::Method(_, head, body) => check_method_body(alloc, d, class, name, head, body),
+        FnDeclKind::Declaration(_)
         | FnDeclKind::Definition(_, _)
         | FnDeclKind::MemberDefinition(_, _, _)
         | FnDeclKind::ConstructorDefinition(_, _, _, _)

@@ -1,6 +1,7 @@
 // The class itself, and what is declared with it.
 
-ghost use Rattle.std.specs.Prelude.{◌≡◌, ◌<◌, ◌≤◌, ◌++◌, [], ◌∷◌, ◌^◌, true, false, length, Ok, OnOk};
+ghost use Rattle.std.specs.Prelude.{◌≡◌, ◌<◌, ◌≤◌, ◌++◌, [], ◌∷◌, ◌^◌};
+ghost use Rattle.std.specs.Prelude.{true, false, length, Ok, OnOk};
 ghost use Rattle.mm_classes.specs.Adding.{added};
 ghost use Rattle.mm_classes.specs.Classes as graphs;
 ghost use Rattle.mm_checks.specs.Checks.{Gives, demand};
@@ -9,7 +10,12 @@ ghost use Rattle.mm_unit_typing.specs.Functions.{declared_function};
 ghost use Rattle.mm_unit_typing.specs.Classes as classes;
 ghost use Rattle.mm_unit_typing.specs.Members as methods;
 ghost use Rattle.mm_unit_typing.specs.JudgeClasses.{judge_own_class};
-ghost use Rattle.mm_check_function.specs.Known.{declarations, functions_view, with_functions, Stands};
+ghost use Rattle.mm_check_function.specs.Known.{
+  declarations,
+  functions_view,
+  with_functions,
+  Stands,
+};
 ghost use Rattle.mm_check_class.specs.Parts.{AreBases, AreMembers};
 
 use crate::words::{destructor_name, qualify};

@@ -1,6 +1,7 @@
 // The name of a class, among what is declared.
 
-ghost use Rattle.std.specs.Prelude.{◌≡◌, ◌<◌, ◌≤◌, ◌++◌, [], ◌∷◌, if◌then◌else◌, length, Ok, IfOk, OnOk};
+ghost use Rattle.std.specs.Prelude.{◌≡◌, ◌<◌, ◌≤◌, ◌++◌, [], ◌∷◌};
+ghost use Rattle.std.specs.Prelude.{if◌then◌else◌, length, Ok, IfOk, OnOk};
 ghost use Rattle.mm_classes.specs.Adding.{declared};
 ghost use Rattle.mm_checks.specs.Checks.{Gives};
 ghost use Rattle.mm_unit_typing.specs.Classes as classes;
@@ -21,8 +22,10 @@ fn declare_class(env: &mut Env, name: &str) -> Result<ClassId, CheckEnd>
     requires { length env.old.classes ≤ 1024 }
     ensures class { Gives (λ c. c) result (Ok (classes.class_number env.old.classes name.now)) }
     ensures here { OnOk result (IfOk result (λ c. c < length env.new.classes)) }
-    ensures env { OnOk result (env.new ≡ record env.old { classes =
-        declared (classes.class_number env.old.classes name.now) env.old.classes name.now }) }
+    ensures env { OnOk result (env.new ≡ record env.old {
+      classes =
+          declared (classes.class_number env.old.classes name.now) env.old.classes name.now;
+    }) }
 {
     match env.declare_class(name) {
         Ok(class) => Ok(class),

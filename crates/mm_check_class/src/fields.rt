@@ -44,7 +44,13 @@ fn check_field(
         (judges.judge_field access table.now.list (specified_view words.now) x.now) }
 {
     let text = x.name.text.as_str();
-    need(alloc, table.is_new_member(text), Code::S2, x.name.place, text)?;
+    need(
+        alloc,
+        table.is_new_member(text),
+        Code::S2,
+        x.name.place,
+        text,
+    )?;
     let ty = want_type(alloc, kept_type(&x.mark, words), &x.mark, &x.name)?;
     need_yours(alloc, &x.name)?;
     let member = new_field(alloc, access, &x.name, ty)?;

@@ -128,7 +128,13 @@ fn check_destructor(
     let text = word.text.as_str();
     need(alloc, text == class, Code::S21, word.place, text)?;
     let name = destructor_name(alloc, class)?;
-    need(alloc, table.is_new_member(name.as_str()), Code::S2, word.place, text)?;
+    need(
+        alloc,
+        table.is_new_member(name.as_str()),
+        Code::S2,
+        word.place,
+        text,
+    )?;
     Ok(Member {
         name: Text::from_string(name),
         access,

@@ -25,7 +25,7 @@ loop-x-preserved c =
     let is = rw g at c.in_ok-check_item.ensures.is in
     record {
       so_far = rw c.access_behind-current.ensures (step_on _ _ _ _ _ c.x-item.result c.x-item.is c.loop-x-test.true c.loop-x.invariant.so_far _
-      (item_stepped c.args.env.now.classes c.args.class.now c.loop-x.current c.loop-x.table.list _ c.x-item.result is));
+          (item_stepped c.args.env.now.classes c.args.class.now c.loop-x.current c.loop-x.table.list _ c.x-item.result is));
       holds = c.in_ok-check_item.ensures.holds;
       env = c.in_ok-check_item.ensures.env ∙ c.loop-x.invariant.env;
     }
