@@ -3,3 +3,5 @@ pub mod Words
 pub mod Owners
 pub mod Finals
 pub mod Kept
+pub mod Names
+pub mod Bodies
