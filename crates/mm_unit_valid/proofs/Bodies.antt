@@ -10,6 +10,7 @@ use Rattle.mm_classes.specs.declared.class.MemberKind.{MemberKind}
 use Rattle.mm_classes.specs.declared.class.MemberKind.TheVariants as kind
 use Rattle.mm_classes.specs.Lists.{Has, first, later}
 use Rattle.mm_classes.specs.Classes.{Class, members_of, name_of, IsClassList, IsComplete, IsTyped}
+use Rattle.mm_classes.proofs.Lists.{Has-append}
 use Rattle.mm_answers.proofs.Ups.{up_is}
 use Rattle.mm_answers.proofs.Founds.{found_is}
 use Rattle.mm_core.specs.declared.part.CoreParam.{CoreParam}
@@ -159,3 +160,109 @@ module _ (d : Declarations) (ok : AreClasses d.classes) (fine : (f : k.Function)
       functions = heads_seen;
       methods = methods_seen;
     }
+
+-- ---- a body
+
+drop-all : (ts us : List Ty) → drop (length ts) (ts ++ us) ≡ us
+drop-all [] us = refl
+drop-all (u ∷ ts) us = drop-all ts us
+
+has_drop : (n : ℕ) (ts : List Ty) (u : Ty) → Has (drop n ts) u → Has ts u
+has_drop zero ts u m = m
+has_drop (suc n) [] u m = m
+has_drop (suc n) (x ∷ ts) u m = later (has_drop n ts u m)
+
+rest_of : (ts us : List Ty) → Begins ts us → ts ++ drop (length ts) us ≡ us
+rest_of ts us b = ap (λ vs. ts ++ drop (length ts) vs) (sym b.1) ∙ ap (λ vs. ts ++ vs) (drop-all ts b.0) ∙ b.1
+
+this_begins : (g : List Class) (class : Option ℕ) (h : Heading) (ls : List Ty) → ((c : ℕ) → class ≡ Some c → c < length g) → Begins (first_locals class h) ls → ThisHere g class ls
+this_begins g None h ls low b c e = cc
+this_begins g (Some x) h ls low b c e =
+    let same : x ≡ c = cc in
+    let z : (0 < length ls) × (type_at ls 0 ≡ ty.Ref x) = subst (λ us. (0 < length us) × (type_at us 0 ≡ ty.Ref x)) b.1 (omega arith, refl) in
+    (low c e, z.0, z.1 ∙ ap ty.Ref same)
+
+this_among : (class : Option ℕ) (h : Heading) (c : ℕ) → class ≡ Some c → 0 < length (first_locals class h)
+this_among None h c e = cc
+this_among (Some x) h c e = omega arith
+
+first_variables : (g : List Class) (class : Option ℕ) → ((c : ℕ) → class ≡ Some c → c < length g) → AreVariables g (this_of class)
+first_variables g None low u m = elim m [ ]
+first_variables g (Some c) low u m = elim m [
+  | first e ↦ subst (IsVariable g) e (reference_variable g c (low c refl))
+  | later z ↦ elim z [ ]
+]
+
+module _ (d : Declarations) (ok : AreClasses d.classes) (fine : (f : k.Function) → Has d.functions f → IsFine d.classes f) (class : Option ℕ) (h : Heading) (params : List Param) (body : t.Stmt) (b : Made (List k.Stmt))
+    (low : (c : ℕ) → class ≡ Some c → c < length d.classes) (result : IsType d.classes h.result) (typed : ParamsAre d.classes (length (this_of class)) [] params h.params)
+    (range : StmtInRange body) (names : StmtNamesOnly IsWord body) (types : BodyTypes d class h params body b) where
+  abbrev firsts : List Ty
+  firsts = first_locals class h
+
+  abbrev vars : List Var
+  vars = parameters_from d.classes (length (this_of class)) params
+
+  abbrev at_body : Around
+  at_body = here d ok fine b.locals (length firsts)
+
+  begins : Begins firsts b.locals
+  begins = typed_stmt_extends (seen d class) (body_here h.result) vars firsts body b types
+
+  vars_in : AreVarsIn at_body (numbers_below (length firsts)) vars
+  vars_in = params_vars (seen d class) at_body refl (numbers_below (length firsts)) (length firsts) (below_has (length firsts)) [] params h.params (this_of class) typed
+      (let l = length-append (this_of class) h.params in omega arith) begins
+
+  body_valid : AreValidStmts at_body h.result false (numbers_below (length firsts)) (stmts_of b.tree)
+  body_valid = typed_stmt_is_valid at_body (seen d class) (seen_around d ok fine b.locals (length firsts) class (this_begins d.classes class h b.locals low begins)) (body_here h.result) vars firsts body b
+      (numbers_below (length firsts)) (λ c e. below_has (length firsts) 0 (this_among class h c e)) vars_in (type_typed d.classes h.result result) range
+      (stmt_names_imply IsWord (AreOutside at_body (seen d class)) (λ x w. outside d ok fine b.locals (length firsts) x w) body names)
+      (omega arith) (itself b.locals) types
+
+  pub body_variables : AreVariables d.classes (drop (length firsts) b.locals)
+  body_variables u m = typed_stmt_declares (seen d class) (body_here h.result) vars firsts body b
+      (λ x i. elim (Has-append (this_of class) h.params i) [
+        | inl a ↦ first_variables d.classes class low x a
+        | inr r ↦ params_variables d.classes (length (this_of class)) [] params h.params typed x r
+      ]) types u (has_drop (length firsts) b.locals u m)
+
+  -- in a program that has what is declared
+  module _ (p : k.Program) (f : k.Function) (in_class : Bool) (grow : GrowsInto d p) (is : IsIn d.classes f class) (same_params : types_of_params f.params ≡ h.params) (same_result : f.result ≡ h.result) where
+    abbrev made_of : k.Function
+    made_of = defined_with in_class (drop (length firsts) b.locals) (block_of b.tree) f
+
+    abbrev there : Around
+    there = around (λ z. true) p made_of
+
+    is_made : IsIn p.classes made_of class
+    is_made = in_like p.classes f made_of class (record { name = refl; params = refl; result = refl; member = refl }) (in_grows d.classes p.classes ok.listed grow.classes f class is)
+
+    first_are : argument_types p.classes made_of ≡ firsts
+    first_are = arguments_in p.classes grow.listed grow.words made_of class is_made ∙ ap (λ ts. this_of class ++ ts) same_params
+
+    like : (n : ℕ) (x : k.Function) → slice_get d.functions n ≡ Some x → IsLikeAt at_body there n x
+    like n x e =
+        let y = grow.functions n x e in
+        let o = (fine x (slice-Has d.functions n x e)).owner in
+        record {
+          function = y.0;
+          there = y.1;
+          opened = ap (list_any (λ (q : CoreParam). q.is_virtual)) (sym y.2.params);
+          called = refl;
+          arguments = arguments_in p.classes grow.listed grow.words y.0 o.0 (in_like p.classes x y.0 o.0 y.2 (in_grows d.classes p.classes ok.listed grow.classes x o.0 o.1))
+              ∙ (ap (λ qs. this_of o.0 ++ types_of_params qs) (sym y.2.params)
+              ∙ sym (arguments_in d.classes ok.listed ok.words x o.0 o.1));
+          result = sym y.2.result;
+        }
+
+    grows_there : GrowsTo at_body there
+    grows_there = record {
+      classes = grow.classes;
+      locals = ap (λ ts. ts ++ drop (length firsts) b.locals) first_are ∙ rest_of firsts b.locals begins;
+      arguments = ap length first_are;
+      functions = like;
+    }
+
+    pub body_in : BodyIn p made_of
+    body_in = subst (λ u. BodyFits there u true (Some (block_of b.tree))) (sym same_result)
+        (subst (λ n. AreValidStmts there h.result false (numbers_below n) (stmts_of b.tree)) (sym (ap length first_are))
+        (stmts_stay at_body there ok.listed grows_there h.result false (numbers_below (length firsts)) (stmts_of b.tree) body_valid))
