@@ -5,3 +5,4 @@ pub mod Finals
 pub mod Kept
 pub mod Names
 pub mod Bodies
+pub mod Functions

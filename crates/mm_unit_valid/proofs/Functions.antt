@@ -1,0 +1,212 @@
+-- What is kept where a function is declared, and where it is defined.
+use Rattle.std.proofs.Common.{◌≡◌, ◌≢◌, ℕ, zero, suc, ◌+◌, ◌<◌, ◌≤◌, List, [], ◌∷◌, ◌++◌, length, map, refl, sym, subst, ap, ◌∙◌, inl, inr, arith}
+use Rattle.std.specs.Prelude.{Bool, true, false, ◌&&◌, if◌then◌else◌, IsTrue, Option, Some, None, is_some, slice_get, drop, AllPairs}
+use Rattle.std.specs.List.{list_any, position_or_len}
+use Rattle.std.specs.Str.{bytes_eq}
+use Rattle.std.proofs.lemmas.Slice.Eq.{bytes_eq-Decides}
+use Rattle.mm_classes.specs.declared.class.Ty.{Ty}
+use Rattle.mm_classes.specs.declared.class.Member.{Member}
+use Rattle.mm_classes.specs.Lists.{Has, first, later}
+use Rattle.mm_classes.specs.Classes.{Class, members_of, name_of, is_field}
+use Rattle.mm_class_table.proofs.Numbers.{number_of-Some}
+use Rattle.mm_class_table.specs.Numbers.{number_of}
+use Rattle.mm_core.specs.declared.part.CoreParam.{CoreParam}
+use Rattle.mm_core.specs.Tree as k
+use Rattle.mm_core.specs.Heads.{this_of, type_code, same_types, types_of_params}
+use Rattle.mm_core.specs.ValidProgram.{IsType}
+use Rattle.mm_core.proofs.Entering.{slice-Has, same_types_is}
+use Rattle.mm_core.proofs.Sets.{and_is}
+use Rattle.mm_syntax.specs.declared.name.Name.{Name}
+use Rattle.mm_syntax.specs.declared.decl.Head.{Head}
+use Rattle.mm_syntax.specs.declared.decl.Param.{Param}
+use Rattle.mm_syntax.specs.Tree as t
+use Rattle.mm_typing.specs.Calls.{qualified}
+use Rattle.mm_typing.specs.Objects.{complete_only, complete_named}
+use Rattle.mm_unit_typing.specs.Types.{type_with}
+use Rattle.mm_unit_typing.specs.Heads.{Heading, ParamsAre}
+use Rattle.mm_unit_typing.specs.Functions.{Declarations, HeadIs, is_function, function_number, known, may_declare, with_function, defined_with, with_body}
+use Rattle.mm_unit_typing.specs.Made.{Made, block_of}
+use Rattle.mm_unit_typing.specs.Bodies.{first_locals, BodyTypes, defined, MemberHead, may_define}
+use Rattle.mm_unit_typing.specs.Units.{FunctionTypes}
+use Rattle.mm_typing_valid.specs.Numbers.{StmtInRange, FunctionInRange}
+use Rattle.mm_typing_valid.specs.Names.{StmtNamesOnly}
+use Rattle.mm_typing_valid.specs.Statements.{AreVariables}
+use Rattle.mm_typing_valid.proofs.Declarators.{specified_is}
+use Rattle.mm_typing_valid.proofs.Functions.{SameHead, Extends, extends_then, extends_body, from_body, at_number, new_function, with_head, is_there, same_result, from_declared, result_known, extends_declared, declared_apart, body_apart}
+use Rattle.mm_typing_valid.proofs.Heads.{IsHeading, head_says, params_variables, params_count, params_are}
+use Rattle.mm_unit_valid.specs.Names.{IsWord, FunctionNames}
+use Rattle.mm_unit_valid.proofs.Words.{not_qualified}
+use Rattle.mm_unit_valid.proofs.Owners.{either_way, IsMethodIn, class_of_name}
+use Rattle.mm_unit_valid.proofs.Kept.{IsIn, IsFine, AreClasses, GrowsInto, BodyIn, HasFunction, HaveFunctions, AreKept, method_like}
+use Rattle.mm_unit_valid.proofs.Bodies.{body_in, body_variables}
+
+-- ---- lists of functions
+
+pub inside : {X : Type 0} {x y : X} → Some x ≡ Some y → x ≡ y
+inside e = cc
+
+Has-slice : (fs : List k.Function) (f : k.Function) → Has fs f → (i : ℕ) × (slice_get fs i ≡ Some f)
+Has-slice [] f m = elim m [ ]
+Has-slice (x ∷ fs) f (first e) = (0, ap Some e)
+Has-slice (x ∷ fs) f (later m) = let r = Has-slice fs f m in (suc r.0, r.1)
+
+-- a method has its function in more functions too
+pub have_more : (g : List Class) (fs gs : List k.Function) → Extends fs gs → HaveFunctions g fs → HaveFunctions g gs
+have_more g fs gs ext all c m h method w =
+    let r = all c m h method w in
+    let i = Has-slice fs r.0 r.1 in
+    let y = ext i.0 r.0 i.1 in
+    (y.0, slice-Has gs i.0 y.0 y.1, sym y.2.member ∙ r.2, method_like g c m r.0 y.0 y.2 r.3)
+
+-- the function of this name and these parameters
+pub record IsKnown (fs : List k.Function) (text : List ℕ) (ts : List Ty) (f : k.Function) : Type 0 where
+  pub at : slice_get fs (function_number fs text ts) ≡ Some f
+  pub name : f.name ≡ text
+  pub params : types_of_params f.params ≡ ts
+
+function_says : (name : List ℕ) (ts : List Ty) (f : k.Function) → is_function name ts f ≡ true → (f.name ≡ name) × (types_of_params f.params ≡ ts)
+function_says name ts f e =
+    let b = and_is (bytes_eq f.name name) (same_types (types_of_params f.params) ts) e in
+    ((bytes_eq-Decides f.name name).0 b.0, same_types_is (types_of_params f.params) ts b.1)
+
+pub is_known : (fs : List k.Function) (name : List ℕ) (ts : List Ty) → list_any (is_function name ts) fs ≡ true → (f : k.Function) × IsKnown fs name ts f
+is_known fs name ts e =
+    let r = at_number (is_function name ts) fs e in
+    let s = function_says name ts r.0 r.2 in
+    (r.0, record { at = r.1; name = s.0; params = s.1 })
+
+-- ---- a definition
+
+module _ (d : Declarations) (kept : AreKept d) (class : Option ℕ) (in_class : Bool) (name : List ℕ) (h : Heading) (params : List Param) (body : t.Stmt) (b : Made (List k.Stmt))
+    (low : (c : ℕ) → class ≡ Some c → c < length d.classes) (result : IsType d.classes h.result) (typed : ParamsAre d.classes (length (this_of class)) [] params h.params)
+    (range : StmtInRange body) (names : StmtNamesOnly IsWord body) (types : BodyTypes d class h params body b)
+    (f : k.Function) (is : IsKnown d.functions name h.params f) (same : f.result ≡ h.result) (of : IsIn d.classes f class) (member : in_class ≡ true → f.member ≡ true) where
+  abbrev number : ℕ
+  number = function_number d.functions name h.params
+
+  abbrev variables : List Ty
+  variables = drop (length (first_locals class h)) b.locals
+
+  abbrev after : List k.Function
+  after = with_body d.functions number in_class variables (block_of b.tree)
+
+  before : (p : k.Program) → GrowsInto (defined d class in_class name h b) p → GrowsInto d p
+  before p grow = record {
+    classes = grow.classes;
+    functions = extends_then d.functions after p.functions (extends_body d.functions number in_class variables (block_of b.tree)) grow.functions;
+    listed = grow.listed;
+    words = grow.words;
+  }
+
+  fine_with : IsFine d.classes f → IsFine d.classes (defined_with in_class variables (block_of b.tree) f)
+  fine_with x = record {
+    result = x.result;
+    params = x.params;
+    few = x.few;
+    locals = body_variables d kept.classes kept.fine class h params body b low result typed range names types;
+    owner = (class, of_with class of);
+    inside = λ e. (refl, member e);
+  } where
+    of_with : (o : Option ℕ) → IsIn d.classes f o → IsIn d.classes (defined_with in_class variables (block_of b.tree) f) o
+    of_with None x = x
+    of_with (Some c) x = (x.0, (x.1.0, method_like d.classes c x.1.0 f (defined_with in_class variables (block_of b.tree) f) (record { name = refl; params = refl; result = refl; member = refl }) x.1.1))
+
+  pub defined_kept : AreKept (defined d class in_class name h b)
+  defined_kept = record {
+    classes = kept.classes;
+    fine = λ x m. elim (from_body d.functions number in_class variables (block_of b.tree) x m) [
+      | inl n ↦ kept.fine x n
+      | inr n ↦ (let q : f ≡ n.0 = inside (sym is.at ∙ n.1) in
+          subst (IsFine d.classes) (ap (defined_with in_class variables (block_of b.tree)) q ∙ n.2) (fine_with (kept.fine f (slice-Has d.functions number f is.at))))
+    ];
+    methods = have_more d.classes d.functions after (extends_body d.functions number in_class variables (block_of b.tree)) kept.methods;
+    bodies = λ p grow x m. elim (from_body d.functions number in_class variables (block_of b.tree) x m) [
+      | inl n ↦ kept.bodies p (before p grow) x n
+      | inr n ↦ (let q : f ≡ n.0 = inside (sym is.at ∙ n.1) in
+          subst (BodyIn p) (ap (defined_with in_class variables (block_of b.tree)) q ∙ n.2)
+          (body_in d kept.classes kept.fine class h params body b low result typed range names types p f in_class (before p grow) of is.params same))
+    ];
+    apart = body_apart d.functions number in_class variables (block_of b.tree) kept.apart;
+  }
+
+-- ---- a declaration
+
+abbrev pub with_new : Declarations → Name → Heading → Declarations
+with_new d name h = record d { functions = with_head d.functions name h }
+
+with_is : (d : Declarations) (name : Name) (h : Heading) → with_function d name h ≡ with_new d name h
+with_is d name h = by (is_some (known d.functions name.text h.params)) where
+  more : Declarations
+  more = record d { functions = d.functions ++ new_function name h ∷ [] }
+
+  by : (b : Bool) → (if b then d else more) ≡ record d { functions = if b then d.functions else more.functions }
+  by true = refl
+  by false = refl
+
+module _ (d : Declarations) (kept : AreKept d) (x : Head) (h : Heading) (word : IsWord x.name.text) (result : IsType d.classes h.result) (params : AreVariables d.classes h.params) (few : length h.params ≤ 32) where
+  new_fine : IsFine d.classes (new_function x.name h)
+  new_fine = record {
+    result = result;
+    params = λ q m. params_are d.classes h.params q params m;
+    few = subst (λ n. n ≤ 32) (sym (params_count h.params)) few;
+    locals = λ u m. elim m [ ];
+    owner = (None, (refl, word));
+    inside = λ e. cc;
+  }
+
+  back : (p : k.Program) → GrowsInto (with_new d x.name h) p → GrowsInto d p
+  back p grow = record {
+    classes = grow.classes;
+    functions = extends_then d.functions (with_head d.functions x.name h) p.functions (extends_declared d.functions x.name h) grow.functions;
+    listed = grow.listed;
+    words = grow.words;
+  }
+
+  pub new_kept : AreKept (with_new d x.name h)
+  new_kept = record {
+    classes = kept.classes;
+    fine = λ f m. elim (from_declared d.functions x.name h f m) [
+      | inl n ↦ kept.fine f n
+      | inr e ↦ subst (IsFine d.classes) e new_fine
+    ];
+    methods = have_more d.classes d.functions (with_head d.functions x.name h) (extends_declared d.functions x.name h) kept.methods;
+    bodies = λ p grow f m. elim (from_declared d.functions x.name h f m) [
+      | inl n ↦ kept.bodies p (back p grow) f n
+      | inr e ↦ subst (BodyIn p) e tt
+    ];
+    apart = declared_apart d.functions x.name h kept.apart;
+  }
+
+-- ---- functions outside classes
+
+module _ (d : Declarations) (defines : Bool) (x : Head) (h : Heading) (is : HeadIs d defines x h) where
+  abbrev fits : Bool
+  fits = may_declare d.functions x.name.text (type_with x.mark is.0) is.2.0 defines
+
+  heading : IsHeading d.classes 0 fits x is.0 is.2.0 h
+  heading = head_says d.classes 0 fits x is.0 is.2.0 h (specified_is d.classes x.type_name.kind is.0 is.1) is.2.1 is.2.2
+
+  new_is : may_declare d.functions x.name.text (Some h.result) h.params defines ≡ true
+  new_is = subst (λ o. may_declare d.functions x.name.text o h.params defines ≡ true) heading.is (subst (λ ts. may_declare d.functions x.name.text (type_with x.mark is.0) ts defines ≡ true) heading.same heading.new)
+
+  with_kept : AreKept d → IsWord x.name.text → AreKept (with_new d x.name h)
+  with_kept kept word = new_kept d kept x h word heading.result (params_variables d.classes 0 [] x.params.list h.params heading.params) heading.few
+
+outside_is : (g : List Class) (f : k.Function) (o : Option ℕ) → IsIn g f o → IsWord f.name → IsIn g f None
+outside_is g f None x w = x
+outside_is g f (Some c) x w = absurd (not_qualified f.name (name_of g c) x.1.0.name w x.1.1.name)
+
+definition_kept : (d : Declarations) (x : Head) (h : Heading) (body : t.Stmt) (b : Made (List k.Stmt)) → AreKept d → IsWord x.name.text → StmtInRange body → StmtNamesOnly IsWord body
+    → HeadIs d true x h → BodyTypes (with_new d x.name h) None h x.params.list body b → AreKept (defined (with_new d x.name h) None false x.name.text h b)
+definition_kept d x h body b kept word range names head types =
+    let e = with_new d x.name h in
+    let ok = with_kept d true x h head kept word in
+    let says = heading d true x h head in
+    let r = is_known e.functions x.name.text h.params (is_there d.functions x.name h) in
+    let o = (ok.fine r.0 (slice-Has e.functions (function_number e.functions x.name.text h.params) r.0 r.1.at)).owner in
+    defined_kept e ok None false x.name.text h x.params.list body b (λ c z. cc) says.result says.params range names types r.0 r.1
+    (result_known d.functions x.name h true r.0 (new_is d true x h head) r.1.at (is_that r.0 r.1))
+    (outside_is d.classes r.0 o.0 o.1 (subst IsWord (sym r.1.name) word)) (λ z. cc)
+  where
+    is_that : (f : k.Function) → IsKnown (with_head d.functions x.name h) x.name.text h.params f → is_function x.name.text h.params f ≡ true
+    is_that f q = rw ((bytes_eq-Decides f.name x.name.text).1 q.name) ((bytes_eq-Decides (map type_code (types_of_params f.params)) (map type_code h.params)).1 (ap (map type_code) q.params))
