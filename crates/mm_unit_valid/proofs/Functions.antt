@@ -7,7 +7,7 @@ use Rattle.std.proofs.lemmas.Slice.Eq.{bytes_eq-Decides}
 use Rattle.mm_classes.specs.declared.class.Ty.{Ty}
 use Rattle.mm_classes.specs.declared.class.Member.{Member}
 use Rattle.mm_classes.specs.Lists.{Has, first, later}
-use Rattle.mm_classes.specs.Classes.{Class, members_of, name_of, is_field}
+use Rattle.mm_classes.specs.Classes.{Class, class_at, members_of, name_of, is_field}
 use Rattle.mm_class_table.proofs.Numbers.{number_of-Some}
 use Rattle.mm_class_table.specs.Numbers.{number_of}
 use Rattle.mm_core.specs.declared.part.CoreParam.{CoreParam}
@@ -26,7 +26,7 @@ use Rattle.mm_unit_typing.specs.Types.{type_with}
 use Rattle.mm_unit_typing.specs.Heads.{Heading, ParamsAre}
 use Rattle.mm_unit_typing.specs.Functions.{Declarations, HeadIs, is_function, function_number, known, may_declare, with_function, defined_with, with_body}
 use Rattle.mm_unit_typing.specs.Made.{Made, block_of}
-use Rattle.mm_unit_typing.specs.Bodies.{first_locals, BodyTypes, defined, MemberHead, may_define}
+use Rattle.mm_unit_typing.specs.Bodies.{MemberHeading, member_heading, first_locals, BodyTypes, defined, MemberHead, may_define}
 use Rattle.mm_unit_typing.specs.Units.{FunctionTypes}
 use Rattle.mm_typing_valid.specs.Numbers.{StmtInRange, FunctionInRange}
 use Rattle.mm_typing_valid.specs.Names.{StmtNamesOnly}
@@ -210,3 +210,67 @@ definition_kept d x h body b kept word range names head types =
   where
     is_that : (f : k.Function) → IsKnown (with_head d.functions x.name h) x.name.text h.params f → is_function x.name.text h.params f ≡ true
     is_that f q = rw ((bytes_eq-Decides f.name x.name.text).1 q.name) ((bytes_eq-Decides (map type_code (types_of_params f.params)) (map type_code h.params)).1 (ap (map type_code) q.params))
+
+-- ---- member functions outside their classes
+
+complete_is : (g : List Class) (o : Option ℕ) (c : ℕ) → complete_only g o ≡ Some c → (o ≡ Some c) × ((class_at g c).complete ≡ true)
+complete_is g None c e = absurd (let z : None ≡ Some c = e in cc)
+complete_is g (Some b) c e = by (class_at g b).complete refl e where
+  by : (z : Bool) → (class_at g b).complete ≡ z → (if z then Some b else None) ≡ Some c → (Some b ≡ Some c) × ((class_at g c).complete ≡ true)
+  by true z h = let q : b ≡ c = cc in (h, subst (λ i. (class_at g i).complete ≡ true) q z)
+  by false z h = absurd (let q : None ≡ Some c = h in cc)
+
+some_known : (p : k.Function → Bool) (fs : List k.Function) → is_some (slice_get fs (position_or_len p fs)) ≡ list_any p fs
+some_known p [] = refl
+some_known p (x ∷ fs) = by (p x) refl (some_known p fs) where
+  by : (b : Bool) → p x ≡ b → is_some (slice_get fs (position_or_len p fs)) ≡ list_any p fs → is_some (slice_get (x ∷ fs) (position_or_len p (x ∷ fs))) ≡ list_any p (x ∷ fs)
+  by true h rest = rw h refl
+  by false h rest =
+      let one : 1 + position_or_len p fs ≡ suc (position_or_len p fs) = omega arith in
+      rw (h, one) rest
+
+-- the function with a class before its name is that of a method of this class
+pub method_of_name : (d : Declarations) (ok : AreClasses d.classes) (c : ℕ) (x : List ℕ) (f : k.Function) (o : Option ℕ) → c < length d.classes → IsIn d.classes f o → f.name ≡ qualified (name_of d.classes c) x → IsIn d.classes f (Some c)
+method_of_name d ok c x f None l i e = absurd (not_qualified f.name (name_of d.classes c) x i.1 e)
+method_of_name d ok c x f (Some b) l i e =
+    let m = i.1.1 in
+    let q = class_of_name d.classes ok.listed ok.words b c i.1.0.name x m.complete.0 l (sym m.name ∙ e) in
+    subst (λ j. IsIn d.classes f (Some j)) q.0 i
+
+member_kept : (d : Declarations) (class : Name) (x : Head) (m : MemberHeading) (body : t.Stmt) (b : Made (List k.Stmt)) → AreKept d → StmtInRange body → StmtNamesOnly IsWord body
+    → MemberHead d class x m → BodyTypes d (Some m.class) m.heading x.params.list body b → AreKept (defined d (Some m.class) false (qualified class.text x.name.text) m.heading b)
+member_kept d class x m body b kept range names head types =
+    let g = d.classes in
+    let s = head.0 in
+    let ts = head.2.0 in
+    let c = head.2.2.0 in
+    let h = head.2.2.2.0 in
+    let named = complete_is g (number_of g class.text) c head.2.2.1 in
+    let at = number_of-Some g class.text c named.0 in
+    let says = head_says g 1 (may_define d class x (type_with x.mark s) ts) x s ts h (specified_is g x.type_name.kind s head.1) head.2.1 head.2.2.2.1 in
+    let name = qualified class.text x.name.text in
+    let whole : member_heading c h ≡ m = head.2.2.2.2.2 in
+    let some : is_some (known d.functions name h.params) ≡ true = subst (λ us. is_some (known d.functions name us) ≡ true) says.same head.2.2.2.2.1 in
+    let r = is_known d.functions name h.params (sym (some_known (is_function name h.params) d.functions) ∙ some) in
+    let o = (kept.fine r.0 (slice-Has d.functions (function_number d.functions name h.params) r.0 r.1.at)).owner in
+    let may : may_declare d.functions name (Some h.result) h.params true ≡ true =
+        subst (λ u. may_declare d.functions name u h.params true ≡ true) says.is (subst (λ us. may_declare d.functions name (type_with x.mark s) us true ≡ true) says.same says.new) in
+    let of = method_of_name d kept.classes c x.name.text r.0 o.0 at.0 o.1 (r.1.name ∙ ap (λ n. qualified n x.name.text) (sym at.1)) in
+    subst (λ (z : MemberHeading). AreKept (defined d (Some z.class) false name z.heading b)) whole
+    (defined_kept d kept (Some c) false name h x.params.list body b (λ j z. let q : c ≡ j = inside z in subst (λ i. i < length g) q at.0) says.result says.params range names
+    (subst (λ (z : MemberHeading). BodyTypes d (Some z.class) z.heading x.params.list body b) (sym whole) types)
+    r.0 r.1 (same_result d.functions name h.result h.params true r.0 may r.1.at) of (λ z. cc))
+
+-- ---- functions
+
+pub function_kept : (d : Declarations) (f : t.Function) (v : Declarations) → FunctionInRange f → FunctionNames f → AreKept d → FunctionTypes d f v → AreKept v
+function_kept d (t.declaration p x) v range names kept e = subst AreKept (sym (with_is d x.name e.0) ∙ e.2) (with_kept d false x e.0 e.1 kept names)
+function_kept d (t.definition p x body) v range names kept e =
+    subst AreKept (ap (λ z. defined z None false x.name.text e.0 e.2.0) (sym (with_is d x.name e.0)) ∙ e.2.2)
+    (definition_kept d x e.0 body e.2.0 kept names.0 range names.1 e.1 (subst (λ z. BodyTypes z None e.0 x.params.list body e.2.0) (with_is d x.name e.0) e.2.1))
+function_kept d (t.member_definition p class x body) v range names kept e =
+    subst AreKept e.2.2 (member_kept d class x e.0 body e.2.0 kept range names.2 e.1 e.2.1)
+function_kept d (t.constructor_definition p class word params body) v range names kept e = absurd e
+function_kept d (t.method p at x body) v range names kept e = absurd e
+function_kept d (t.destructor p at word has) v range names kept e = absurd e
+function_kept d (t.constructor p word params body) v range names kept e = absurd e
