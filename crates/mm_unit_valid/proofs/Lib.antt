@@ -6,3 +6,4 @@ pub mod Kept
 pub mod Names
 pub mod Bodies
 pub mod Functions
+pub mod Members
