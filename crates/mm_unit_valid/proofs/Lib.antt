@@ -7,3 +7,4 @@ pub mod Names
 pub mod Bodies
 pub mod Functions
 pub mod Members
+pub mod Classes
