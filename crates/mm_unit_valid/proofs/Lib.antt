@@ -8,3 +8,4 @@ pub mod Bodies
 pub mod Functions
 pub mod Members
 pub mod Classes
+pub mod Methods
