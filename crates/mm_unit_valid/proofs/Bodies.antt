@@ -1,28 +1,26 @@
 -- Bodies of functions, in classes and outside: what is seen around them, and that they are valid in
 -- any program that has what is declared.
-use Rattle.std.proofs.Common.{◌≡◌, ◌≢◌, ℕ, zero, suc, ◌+◌, ◌<◌, ◌≤◌, List, [], ◌∷◌, ◌++◌, length, map, refl, sym, subst, ap, ◌∙◌, inl, inr, arith, length-append}
-use Rattle.std.specs.Prelude.{Bool, true, false, if◌then◌else◌, IsTrue, Option, Some, None, slice_get, drop, AllPairs}
+use Rattle.std.proofs.Common.{◌≡◌, ℕ, zero, suc, ◌+◌, ◌<◌, List, [], ◌∷◌, ◌++◌, length, refl, sym, subst, ap, ◌∙◌, inl, inr, arith, length-append}
+use Rattle.std.specs.Prelude.{Bool, true, false, Option, Some, None, slice_get, drop}
 use Rattle.std.specs.List.{list_any}
 use Rattle.mm_classes.specs.declared.class.Ty.{Ty}
 use Rattle.mm_classes.specs.declared.class.Ty.TheVariants as ty
-use Rattle.mm_classes.specs.declared.class.Member.{Member}
 use Rattle.mm_classes.specs.declared.class.MemberKind.{MemberKind}
 use Rattle.mm_classes.specs.declared.class.MemberKind.TheVariants as kind
 use Rattle.mm_classes.specs.Lists.{Has, first, later}
-use Rattle.mm_classes.specs.Classes.{Class, members_of, name_of, IsClassList, IsComplete, IsTyped}
+use Rattle.mm_classes.specs.Classes.{Class, name_of, IsComplete, IsTyped}
 use Rattle.mm_classes.proofs.Lists.{Has-append}
 use Rattle.mm_answers.proofs.Ups.{up_is}
 use Rattle.mm_answers.proofs.Founds.{found_is}
 use Rattle.mm_core.specs.declared.part.CoreParam.{CoreParam}
 use Rattle.mm_core.specs.Tree as k
 use Rattle.mm_core.specs.View.{stmts_of}
-use Rattle.mm_core.specs.Heads.{this_of, field_type_in, is_open, is_reference, types_of_params, owner_of, argument_types, local_types, type_at}
+use Rattle.mm_core.specs.Heads.{this_of, field_type_in, is_open, is_reference, types_of_params, owner_of, argument_types, type_at}
 use Rattle.mm_core.specs.Valid.{Around, AreValidStmts}
 use Rattle.mm_core.specs.ValidProgram.{IsType, IsVariable, numbers_below, around, BodyFits}
 use Rattle.mm_core.proofs.Entering.{slice-Has}
 use Rattle.mm_scopes.specs.declared.head.Var.{Var}
 use Rattle.mm_scopes.specs.declared.head.FnHead.{FnHead}
-use Rattle.mm_scopes.specs.Environment.{Environment}
 use Rattle.mm_syntax.specs.declared.decl.Param.{Param}
 use Rattle.mm_syntax.specs.Tree as t
 use Rattle.mm_typing.specs.Calls.{qualified}
@@ -34,18 +32,17 @@ use Rattle.mm_unit_typing.specs.Bodies.{body_here, first_locals, BodyTypes}
 use Rattle.mm_unit_typing.proofs.Fitting.{IsSolid}
 use Rattle.mm_typing_valid.specs.Numbers.{StmtInRange}
 use Rattle.mm_typing_valid.specs.Names.{StmtNamesOnly}
-use Rattle.mm_typing_valid.specs.Seen.{IsThisIn, IsHeadOf, IsOutside, IsMethodOf, AreOutside, IsSeen}
-use Rattle.mm_typing_valid.specs.Statements.{Begins, IsAround, ThisIsSet, AreVarsIn, AreVariables}
+use Rattle.mm_typing_valid.specs.Seen.{IsHeadOf, IsOutside, IsMethodOf, AreOutside}
+use Rattle.mm_typing_valid.specs.Statements.{Begins, IsAround, AreVarsIn, AreVariables}
 use Rattle.mm_typing_valid.proofs.Declarators.{type_typed, reference_variable}
-use Rattle.mm_typing_valid.proofs.Functions.{SameHead, Extends}
 use Rattle.mm_typing_valid.proofs.Heads.{below_has, params_variables, params_vars}
 use Rattle.mm_typing_valid.proofs.Locals.{itself}
 use Rattle.mm_typing_valid.proofs.Statements.{typed_stmt_is_valid, typed_stmt_extends}
 use Rattle.mm_typing_valid.proofs.Variables.{typed_stmt_declares}
 use Rattle.mm_unit_valid.specs.Names.{IsWord}
-use Rattle.mm_unit_valid.proofs.Growing.{Grows, GrowsTo, IsLikeAt, stmts_stay}
+use Rattle.mm_unit_valid.proofs.Growing.{GrowsTo, IsLikeAt, stmts_stay}
 use Rattle.mm_unit_valid.proofs.Words.{not_qualified}
-use Rattle.mm_unit_valid.proofs.Owners.{IsMethodIn, AreWords, owner_is, class_of_name}
+use Rattle.mm_unit_valid.proofs.Owners.{owner_is, class_of_name}
 use Rattle.mm_unit_valid.proofs.Kept.{IsIn, IsFine, AreClasses, GrowsInto, BodyIn, in_like, in_grows, arguments_in}
 use Rattle.mm_unit_valid.proofs.Names.{stmt_names_imply}
 

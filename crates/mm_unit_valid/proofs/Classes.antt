@@ -1,10 +1,9 @@
 -- What is kept where a class is declared, and where it is completed.
-use Rattle.std.proofs.Common.{◌≡◌, ◌≢◌, ℕ, zero, suc, ◌+◌, ◌<◌, ◌≤◌, List, [], ◌∷◌, ◌++◌, length, map, refl, sym, subst, ap, ap₂, ◌∙◌, inl, inr, arith, length-set, length-append}
-use Rattle.std.specs.Prelude.{Bool, true, false, not, ◌&&◌, ◌⊎◌, cond, nat_lt, if◌then◌else◌, Option, Some, None, position, filter, get_or, AllPairs}
-use Rattle.std.specs.List.{position_or_len}
+use Rattle.std.proofs.Common.{◌≡◌, ◌≢◌, ℕ, suc, ◌+◌, ◌<◌, ◌≤◌, List, [], ◌∷◌, ◌++◌, length, map, refl, sym, subst, ap, ap₂, ◌∙◌, inl, inr, arith, length-set, length-append}
+use Rattle.std.specs.Prelude.{Bool, true, false, not, ◌⊎◌, cond, nat_lt, Option, Some, None, filter, get_or, AllPairs}
 use Rattle.std.specs.Str.{bytes_eq}
-use Rattle.std.proofs.lemmas.Bool.Decides.{nat_tests, eqb_tells}
-use Rattle.std.proofs.lemmas.List.{length-map, get_or_push, append_assoc}
+use Rattle.std.proofs.lemmas.Bool.Decides.{eqb_tells}
+use Rattle.std.proofs.lemmas.List.{get_or_push, append_assoc}
 use Rattle.std.proofs.lemmas.List.Quantifiers.{all_pairs_push}
 use Rattle.std.proofs.lemmas.Slice.Eq.{bytes_eq-Decides}
 use Rattle.mm_classes.specs.declared.class.Base.{Base}
@@ -19,11 +18,11 @@ use Rattle.mm_classes.specs.Classes.{Class, class_at, members_of, name_of, names
 use Rattle.mm_classes.specs.Classes as classes
 use Rattle.mm_classes.proofs.Answering.{complete_below, place_from_Has, Has-get_or}
 use Rattle.mm_classes.proofs.Declaring.{same_complete, at_old}
-use Rattle.mm_classes.proofs.Growing.{added-valid, at_new, at_other, as_long}
+use Rattle.mm_classes.proofs.Growing.{added-valid, at_new, at_other}
 use Rattle.mm_classes.proofs.Lists.{Has-append, Has-left, Has-right, Has-map, Has-map_from}
 use Rattle.mm_core.specs.Tree as k
-use Rattle.mm_core.specs.Heads.{type_code, params_in, result_in, types_of_params}
-use Rattle.mm_core.specs.ValidProgram.{IsType, IsVariable, AreApart}
+use Rattle.mm_core.specs.Heads.{type_code, params_in, result_in}
+use Rattle.mm_core.specs.ValidProgram.{IsType, AreApart}
 use Rattle.mm_core.proofs.Entering.{members_complete}
 use Rattle.mm_core.proofs.Returning.{code_same}
 use Rattle.mm_core.proofs.Sets.{and_is, is_and, filter-from, filter-has}
@@ -31,19 +30,18 @@ use Rattle.mm_syntax.specs.declared.name.Name.{Name}
 use Rattle.mm_typing.specs.Calls.{qualified}
 use Rattle.mm_unit_typing.specs.Functions.{Declarations}
 use Rattle.mm_unit_typing.specs.Members.{destructor_name, is_called, method_function, method_functions}
-use Rattle.mm_unit_typing.specs.Classes.{class_number, with_class, with_tokens, completed}
+use Rattle.mm_unit_typing.specs.Classes.{class_number, with_class, completed}
 use Rattle.mm_unit_typing.proofs.Fitting.{IsSolid, AreSolid}
-use Rattle.mm_unit_typing.proofs.Listed.{declared_fits, number_low}
+use Rattle.mm_unit_typing.proofs.Listed.{declared_fits}
 use Rattle.mm_typing_valid.specs.Statements.{AreVariables}
 use Rattle.mm_typing_valid.proofs.Functions.{extends_then, extends_more}
 use Rattle.mm_typing_valid.proofs.Heads.{params_types, params_count, params_are}
 use Rattle.mm_unit_valid.specs.Names.{IsWord}
 use Rattle.mm_unit_valid.proofs.Growing.{Grows, grows_then, grows_declared, grows_added, members_stay, name_stays}
 use Rattle.mm_unit_valid.proofs.Words.{parts_of, not_qualified, not_destructor}
-use Rattle.mm_unit_valid.proofs.Owners.{either_way, IsMethodIn, AreWords, class_of_name}
-use Rattle.mm_unit_valid.proofs.Finals.{IsNamedIn, AreMembersNamed}
-use Rattle.mm_unit_valid.proofs.Kept.{IsIn, IsFine, AreClasses, GrowsInto, BodyIn, HasFunction, HaveFunctions, AreKept, type_grows, fine_grows, has_function_grows}
-use Rattle.mm_unit_valid.proofs.Functions.{have_more}
+use Rattle.mm_unit_valid.proofs.Owners.{IsMethodIn, AreWords, class_of_name}
+use Rattle.mm_unit_valid.proofs.Finals.{IsNamedIn}
+use Rattle.mm_unit_valid.proofs.Kept.{IsIn, IsFine, AreClasses, GrowsInto, BodyIn, AreKept, fine_grows, has_function_grows}
 use Rattle.mm_unit_valid.proofs.Members.{AreNamedFew}
 
 -- ---- a class that is declared

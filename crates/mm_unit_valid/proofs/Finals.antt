@@ -1,23 +1,20 @@
 -- Final overriders where only destructors are virtual: a destructor is overridden in no other class
 -- by its name, and so it is its own final overrider.
-use Rattle.std.proofs.Common.{◌≡◌, ℕ, ◌<◌, ◌≤◌, ◌^◌, List, [], ◌∷◌, ◌++◌, length, map, refl, sym, subst, ap, ◌∙◌, inl, inr, arith}
-use Rattle.std.specs.Prelude.{Bool, true, false, not, ◌&&◌, ◌⊎◌, IsTrue, Some, codes}
-use Rattle.std.specs.List.{list_any}
+use Rattle.std.proofs.Common.{◌≡◌, ℕ, ◌<◌, List, length, map, refl, sym, ap, ◌∙◌, inl, inr, arith}
+use Rattle.std.specs.Prelude.{true, false, not, ◌&&◌, ◌⊎◌, Some}
 use Rattle.std.specs.Str.{bytes_eq}
 use Rattle.std.proofs.lemmas.Slice.Eq.{bytes_eq-Decides}
 use Rattle.mm_classes.specs.declared.class.Member.{Member}
 use Rattle.mm_classes.specs.Lists.{Has}
-use Rattle.mm_classes.specs.Classes.{Class, members_of, name_of, is_field, is_virtual, field_count, IsClassList, IsComplete, Derives}
-use Rattle.mm_classes.specs.Subobjects.{Path, IsSubobject, subobjects_of, end_of, compose, IsWithin}
-use Rattle.mm_classes.proofs.Answering.{complete_below}
+use Rattle.mm_classes.specs.Classes.{Class, members_of, name_of, is_field, is_virtual, IsClassList, Derives}
+use Rattle.mm_classes.specs.Subobjects.{Path, IsSubobject, end_of, compose}
 use Rattle.mm_classes.proofs.Compose.{compose-end, whole_or_lower, compose_whole, within-self}
 use Rattle.mm_classes.proofs.Deriving.{derives_falls}
 use Rattle.mm_core.specs.Tree.{Function, Program}
-use Rattle.mm_core.specs.Heads.{type_code, same_types, params_in, result_in, same_function}
+use Rattle.mm_core.specs.Heads.{type_code, same_types, params_in, same_function}
 use Rattle.mm_core.specs.Finals.{final_of}
-use Rattle.mm_core.specs.Dispatch.{is_covariant}
-use Rattle.mm_core.specs.Relations.{IsOverrider, IsTop, IsFinal}
-use Rattle.mm_core.specs.Valid.{IsVirtualIn, IsDestructor}
+use Rattle.mm_core.specs.Relations.{IsOverrider}
+use Rattle.mm_core.specs.Valid.{IsVirtualIn}
 use Rattle.mm_core.specs.ValidProgram.{IsFunctionOf, IsValidClass}
 use Rattle.mm_core.proofs.Entering.{members_complete}
 use Rattle.mm_core.proofs.Sets.{and_is, is_and, any-from, any-has, reads_sets}

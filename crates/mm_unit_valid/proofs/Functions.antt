@@ -1,16 +1,14 @@
 -- What is kept where a function is declared, and where it is defined.
-use Rattle.std.proofs.Common.{◌≡◌, ◌≢◌, ℕ, zero, suc, ◌+◌, ◌<◌, ◌≤◌, List, [], ◌∷◌, ◌++◌, length, map, refl, sym, subst, ap, ◌∙◌, inl, inr, arith}
-use Rattle.std.specs.Prelude.{Bool, true, false, ◌&&◌, if◌then◌else◌, IsTrue, Option, Some, None, is_some, slice_get, drop, AllPairs}
+use Rattle.std.proofs.Common.{◌≡◌, ℕ, suc, ◌+◌, ◌<◌, ◌≤◌, List, [], ◌∷◌, ◌++◌, length, map, refl, sym, subst, ap, ◌∙◌, inl, inr, arith}
+use Rattle.std.specs.Prelude.{Bool, true, false, if◌then◌else◌, Option, Some, None, is_some, slice_get, drop}
 use Rattle.std.specs.List.{list_any, position_or_len}
 use Rattle.std.specs.Str.{bytes_eq}
 use Rattle.std.proofs.lemmas.Slice.Eq.{bytes_eq-Decides}
 use Rattle.mm_classes.specs.declared.class.Ty.{Ty}
-use Rattle.mm_classes.specs.declared.class.Member.{Member}
 use Rattle.mm_classes.specs.Lists.{Has, first, later}
-use Rattle.mm_classes.specs.Classes.{Class, class_at, members_of, name_of, is_field}
+use Rattle.mm_classes.specs.Classes.{Class, class_at, name_of}
 use Rattle.mm_class_table.proofs.Numbers.{number_of-Some}
 use Rattle.mm_class_table.specs.Numbers.{number_of}
-use Rattle.mm_core.specs.declared.part.CoreParam.{CoreParam}
 use Rattle.mm_core.specs.Tree as k
 use Rattle.mm_core.specs.Heads.{this_of, type_code, same_types, types_of_params}
 use Rattle.mm_core.specs.ValidProgram.{IsType}
@@ -21,7 +19,7 @@ use Rattle.mm_syntax.specs.declared.decl.Head.{Head}
 use Rattle.mm_syntax.specs.declared.decl.Param.{Param}
 use Rattle.mm_syntax.specs.Tree as t
 use Rattle.mm_typing.specs.Calls.{qualified}
-use Rattle.mm_typing.specs.Objects.{complete_only, complete_named}
+use Rattle.mm_typing.specs.Objects.{complete_only}
 use Rattle.mm_unit_typing.specs.Types.{type_with}
 use Rattle.mm_unit_typing.specs.Heads.{Heading, ParamsAre}
 use Rattle.mm_unit_typing.specs.Functions.{Declarations, HeadIs, is_function, function_number, known, may_declare, with_function, defined_with, with_body}
@@ -32,12 +30,12 @@ use Rattle.mm_typing_valid.specs.Numbers.{StmtInRange, FunctionInRange}
 use Rattle.mm_typing_valid.specs.Names.{StmtNamesOnly}
 use Rattle.mm_typing_valid.specs.Statements.{AreVariables}
 use Rattle.mm_typing_valid.proofs.Declarators.{specified_is}
-use Rattle.mm_typing_valid.proofs.Functions.{SameHead, Extends, extends_then, extends_body, from_body, at_number, new_function, with_head, is_there, same_result, from_declared, result_known, extends_declared, declared_apart, body_apart}
+use Rattle.mm_typing_valid.proofs.Functions.{Extends, extends_then, extends_body, from_body, at_number, new_function, with_head, is_there, same_result, from_declared, result_known, extends_declared, declared_apart, body_apart}
 use Rattle.mm_typing_valid.proofs.Heads.{IsHeading, head_says, params_variables, params_count, params_are}
 use Rattle.mm_unit_valid.specs.Names.{IsWord, FunctionNames}
 use Rattle.mm_unit_valid.proofs.Words.{not_qualified}
-use Rattle.mm_unit_valid.proofs.Owners.{either_way, IsMethodIn, class_of_name}
-use Rattle.mm_unit_valid.proofs.Kept.{IsIn, IsFine, AreClasses, GrowsInto, BodyIn, HasFunction, HaveFunctions, AreKept, method_like}
+use Rattle.mm_unit_valid.proofs.Owners.{class_of_name}
+use Rattle.mm_unit_valid.proofs.Kept.{IsIn, IsFine, AreClasses, GrowsInto, BodyIn, HaveFunctions, AreKept, method_like}
 use Rattle.mm_unit_valid.proofs.Bodies.{body_in, body_variables}
 
 -- ---- lists of functions
@@ -254,7 +252,7 @@ member_kept d class x m body b kept range names head types =
     let r = is_known d.functions name h.params (sym (some_known (is_function name h.params) d.functions) ∙ some) in
     let o = (kept.fine r.0 (slice-Has d.functions (function_number d.functions name h.params) r.0 r.1.at)).owner in
     let may : may_declare d.functions name (Some h.result) h.params true ≡ true =
-        subst (λ u. may_declare d.functions name u h.params true ≡ true) says.is (subst (λ us. may_declare d.functions name (type_with x.mark s) us true ≡ true) says.same says.new) in
+    subst (λ u. may_declare d.functions name u h.params true ≡ true) says.is (subst (λ us. may_declare d.functions name (type_with x.mark s) us true ≡ true) says.same says.new) in
     let of = method_of_name d kept.classes c x.name.text r.0 o.0 at.0 o.1 (r.1.name ∙ ap (λ n. qualified n x.name.text) (sym at.1)) in
     subst (λ (z : MemberHeading). AreKept (defined d (Some z.class) false name z.heading b)) whole
     (defined_kept d kept (Some c) false name h x.params.list body b (λ j z. let q : c ≡ j = inside z in subst (λ i. i < length g) q at.0) says.result says.params range names

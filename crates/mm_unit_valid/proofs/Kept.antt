@@ -1,14 +1,14 @@
 -- What is kept of what a unit has declared so far.
-use Rattle.std.proofs.Common.{◌≡◌, ◌≢◌, ℕ, zero, suc, ◌<◌, ◌≤◌, List, [], ◌∷◌, ◌++◌, length, map, refl, sym, subst, ap, ◌∙◌, inl, inr, arith}
-use Rattle.std.specs.Prelude.{Bool, true, false, if◌then◌else◌, IsTrue, Option, Some, None, slice_get, AllPairs}
+use Rattle.std.proofs.Common.{◌≡◌, ℕ, ◌≤◌, List, ◌++◌, length, refl, sym, subst, ap, ◌∙◌, arith}
+use Rattle.std.specs.Prelude.{true, false, Option, Some, None, AllPairs}
 use Rattle.mm_classes.specs.declared.class.Ty.{Ty}
 use Rattle.mm_classes.specs.declared.class.Ty.TheVariants as ty
 use Rattle.mm_classes.specs.declared.class.Member.{Member}
-use Rattle.mm_classes.specs.Lists.{Has, first, later}
-use Rattle.mm_classes.specs.Classes.{Class, class_at, members_of, name_of, is_field, IsClassList, IsComplete}
+use Rattle.mm_classes.specs.Lists.{Has}
+use Rattle.mm_classes.specs.Classes.{Class, members_of, is_field, IsClassList}
 use Rattle.mm_core.specs.declared.part.CoreParam.{CoreParam}
 use Rattle.mm_core.specs.Tree.{Function, Program}
-use Rattle.mm_core.specs.Heads.{this_of, types_of_params, owner_of, argument_types}
+use Rattle.mm_core.specs.Heads.{this_of, types_of_params, argument_types}
 use Rattle.mm_core.specs.ValidProgram.{IsType, IsVariable, around, BodyFits, AreApart}
 use Rattle.mm_typing.specs.Calls.{qualified}
 use Rattle.mm_unit_typing.specs.Functions.{Declarations}

@@ -9,3 +9,4 @@ pub mod Functions
 pub mod Members
 pub mod Classes
 pub mod Methods
+pub mod Units

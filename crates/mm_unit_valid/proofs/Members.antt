@@ -1,33 +1,26 @@
 -- The members of a class that is typed, and the heads of its methods.
-use Rattle.std.proofs.Common.{◌≡◌, ◌≢◌, ℕ, ◌+◌, ◌<◌, ◌≤◌, List, [], ◌∷◌, ◌++◌, length, map, refl, sym, subst, ap, ap₂, ◌∙◌, inl, inr, arith}
-use Rattle.std.specs.Prelude.{Bool, true, false, Option, Some, None, is_some, position}
-use Rattle.std.specs.Str.{bytes_eq}
+use Rattle.std.proofs.Common.{◌≡◌, ℕ, ◌+◌, ◌≤◌, List, [], ◌∷◌, ◌++◌, length, map, refl, sym, subst, ap, ap₂, ◌∙◌, inl, inr, arith}
+use Rattle.std.specs.Prelude.{false}
 use Rattle.mm_classes.specs.declared.class.Access.{Access}
 use Rattle.mm_classes.specs.declared.class.Ty.{Ty}
-use Rattle.mm_classes.specs.declared.class.Ty.TheVariants as ty
 use Rattle.mm_classes.specs.declared.class.Member.{Member}
-use Rattle.mm_classes.specs.declared.class.MemberKind.TheVariants as kind
 use Rattle.mm_classes.specs.Lists.{Has, first, later}
-use Rattle.mm_classes.specs.Classes.{Class, names_in, is_field}
+use Rattle.mm_classes.specs.Classes.{Class, is_field}
 use Rattle.mm_classes.proofs.Lists.{Has-append, Has-left, Has-right}
-use Rattle.mm_class_table.specs.Numbers.{number_of}
 use Rattle.mm_core.specs.Heads.{params_in, result_in}
 use Rattle.mm_core.specs.ValidProgram.{IsType}
 use Rattle.mm_scopes.specs.declared.head.Var.{Var}
-use Rattle.mm_syntax.specs.declared.name.Name.{Name}
-use Rattle.mm_syntax.specs.declared.expr.TypeNameKind.{TypeNameKind}
-use Rattle.mm_syntax.specs.declared.expr.TypeNameKind.TheVariants as type
 use Rattle.mm_syntax.specs.declared.decl.FieldName.{FieldName}
 use Rattle.mm_syntax.specs.declared.decl.Head.{Head}
 use Rattle.mm_syntax.specs.declared.decl.Param.{Param}
 use Rattle.mm_syntax.specs.Tree as t
-use Rattle.mm_unit_typing.specs.Types.{Specified, class_specified, specified, specified_or_void, type_with, variable_type, named_type}
-use Rattle.mm_unit_typing.specs.Scopes.{param_type, parameter_named, parameter}
+use Rattle.mm_unit_typing.specs.Types.{Specified, specified_or_void, variable_type}
+use Rattle.mm_unit_typing.specs.Scopes.{param_type, parameter}
 use Rattle.mm_unit_typing.specs.Heads.{Heading, heading, heading_of, ParamIs, ParamsAre}
-use Rattle.mm_unit_typing.specs.Members.{access_behind, is_new_method, method_member, destructor_name, destructor_member, MethodHead, FieldsAre, FunctionIs, ItemIs, ItemsAre}
+use Rattle.mm_unit_typing.specs.Members.{access_behind, is_new_method, method_member, MethodHead, FieldsAre, FunctionIs, ItemIs, ItemsAre}
 use Rattle.mm_typing_valid.proofs.Declarators.{specified_is, with_type, value_is}
 use Rattle.mm_typing_valid.proofs.Heads.{IsHeading, head_says}
-use Rattle.mm_unit_valid.specs.Names.{IsWord, FieldNames, FunctionNames, ItemNames, ItemsNames}
+use Rattle.mm_unit_valid.specs.Names.{FieldNames, FunctionNames, ItemNames, ItemsNames}
 use Rattle.mm_unit_valid.proofs.Finals.{IsNamedIn}
 
 -- ---- names and numbers of parameters
@@ -144,18 +137,20 @@ module _ (g : List Class) where
   item_says class a ms (t.function_item (t.method p at x body)) v e =
       let f = e.1.2 in
       let h = f.0 in
-      let says = method_says g ms x h f.1 in
-      (h, record {
-        is = heading_is ms x h f.1;
-        result = says.result;
-        params = says.params;
-        member = method_member a x.name h;
-        has = subst (λ z. Has z (method_member a x.name h)) e.2 (Has-right ms (e.0 ∷ []) (first (sym f.2)));
-        method = refl;
-        name = refl;
-        types = refl;
-        gives = refl;
-      })
+      let says = method_says g ms x h f.1 in (
+        h,
+        record {
+          is = heading_is ms x h f.1;
+          result = says.result;
+          params = says.params;
+          member = method_member a x.name h;
+          has = subst (λ z. Has z (method_member a x.name h)) e.2 (Has-right ms (e.0 ∷ []) (first (sym f.2)));
+          method = refl;
+          name = refl;
+          types = refl;
+          gives = refl;
+        },
+      )
   item_says class a ms (t.access w) v e = tt
   item_says class a ms (t.fields x xs) v e = tt
   item_says class a ms (t.function_item (t.destructor p at word has)) v e = tt

@@ -1,7 +1,7 @@
 -- What is kept where the bodies of member functions stand in their class.
-use Rattle.std.proofs.Common.{◌≡◌, ◌≢◌, ℕ, zero, suc, ◌+◌, ◌<◌, ◌≤◌, List, [], ◌∷◌, ◌++◌, length, map, refl, sym, subst, ap, ap₂, ◌∙◌, inl, inr, arith}
-use Rattle.std.specs.Prelude.{Bool, true, false, not, ◌&&◌, cond, Option, Some, None, position}
-use Rattle.std.specs.List.{list_any, position_or_len}
+use Rattle.std.proofs.Common.{◌≡◌, ℕ, ◌+◌, ◌<◌, ◌≤◌, List, [], ◌∷◌, ◌++◌, length, map, refl, sym, subst, ap, ap₂, ◌∙◌}
+use Rattle.std.specs.Prelude.{Bool, true, not, cond, Some, None, position}
+use Rattle.std.specs.List.{position_or_len}
 use Rattle.std.specs.Str.{bytes_eq}
 use Rattle.std.proofs.lemmas.List.{length-map}
 use Rattle.std.proofs.lemmas.Slice.Eq.{bytes_eq-Decides}
@@ -11,7 +11,7 @@ use Rattle.mm_classes.specs.Lists.{Has}
 use Rattle.mm_classes.specs.Classes.{Class, members_of, name_of, names_in, IsComplete}
 use Rattle.mm_class_table.specs.Numbers.{number_of}
 use Rattle.mm_core.specs.Tree as k
-use Rattle.mm_core.specs.Heads.{type_code, same_types, params_in, result_in, types_of_params}
+use Rattle.mm_core.specs.Heads.{type_code, same_types, result_in, types_of_params}
 use Rattle.mm_core.proofs.Entering.{slice-Has}
 use Rattle.mm_core.proofs.Sets.{is_and, any-has}
 use Rattle.mm_scopes.specs.declared.head.Var.{Var}
@@ -22,7 +22,7 @@ use Rattle.mm_syntax.specs.declared.decl.Head.{Head}
 use Rattle.mm_syntax.specs.declared.decl.Param.{Param}
 use Rattle.mm_syntax.specs.Tree as t
 use Rattle.mm_typing.specs.Calls.{qualified}
-use Rattle.mm_unit_typing.specs.Types.{class_specified, specified, specified_or_void, variable_type, named_type}
+use Rattle.mm_unit_typing.specs.Types.{class_specified, specified, specified_or_void, variable_type}
 use Rattle.mm_unit_typing.specs.Scopes.{param_type, parameter_named, parameter}
 use Rattle.mm_unit_typing.specs.Heads.{Heading, heading, heading_of, ParamsAre}
 use Rattle.mm_unit_typing.specs.Functions.{Declarations, is_function, function_number}
@@ -33,9 +33,9 @@ use Rattle.mm_unit_typing.proofs.Listed.{bodies_keep}
 use Rattle.mm_typing_valid.specs.Numbers.{StmtInRange, ItemInRange, ItemsInRange}
 use Rattle.mm_typing_valid.specs.Names.{StmtNamesOnly}
 use Rattle.mm_unit_valid.specs.Names.{IsWord, ItemNames, ItemsNames}
-use Rattle.mm_unit_valid.proofs.Owners.{IsMethodIn, one_member, class_of_name}
-use Rattle.mm_unit_valid.proofs.Kept.{IsIn, AreKept, HasFunction, type_grows}
-use Rattle.mm_unit_valid.proofs.Functions.{inside, IsKnown, is_known, method_of_name, defined_kept}
+use Rattle.mm_unit_valid.proofs.Owners.{one_member, class_of_name}
+use Rattle.mm_unit_valid.proofs.Kept.{IsIn, AreKept, type_grows}
+use Rattle.mm_unit_valid.proofs.Functions.{inside, is_known, method_of_name, defined_kept}
 use Rattle.mm_unit_valid.proofs.Members.{SaysMethod, ItemSays, ItemsSay}
 
 -- ---- what a head says rests on the names of the classes alone
@@ -71,8 +71,7 @@ module _ (g h : List Class) (same : names_in h ≡ names_in g) where
   params_stay : (n : ℕ) (vs : List Var) (qs : List Param) (ts : List Ty) → ParamsAre g n vs qs ts → ParamsAre h n vs qs ts
   params_stay n vs [] ts e = e
   params_stay n vs (q ∷ qs) ts e =
-      let p = e.1 in
-      (
+      let p = e.1 in (
         e.0,
         (p.0, p.1, (p.2.0, specified_same q.type_name.kind ∙ p.2.1, p.2.2)),
         (
@@ -84,17 +83,20 @@ module _ (g h : List Class) (same : names_in h ≡ names_in g) where
 
   module _ (ms : List Member) (long : length g ≤ length h) where
     item_stays : (x : t.Item) → ItemSays g ms x → ItemSays h ms x
-    item_stays (t.function_item (t.method p at x body)) s = (s.0, record {
-      is = heading_same x ∙ s.1.is;
-      result = type_grows g h long s.0.result s.1.result;
-      params = params_stay 1 [] x.params.list s.0.params s.1.params;
-      member = s.1.member;
-      has = s.1.has;
-      method = s.1.method;
-      name = s.1.name;
-      types = s.1.types;
-      gives = s.1.gives;
-    })
+    item_stays (t.function_item (t.method p at x body)) s = (
+      s.0,
+      record {
+        is = heading_same x ∙ s.1.is;
+        result = type_grows g h long s.0.result s.1.result;
+        params = params_stay 1 [] x.params.list s.0.params s.1.params;
+        member = s.1.member;
+        has = s.1.has;
+        method = s.1.method;
+        name = s.1.name;
+        types = s.1.types;
+        gives = s.1.gives;
+      },
+    )
     item_stays (t.access a) s = tt
     item_stays (t.fields x xs) s = tt
     item_stays (t.function_item (t.destructor p at word has)) s = tt

@@ -1,22 +1,20 @@
 -- Methods and the functions that they are, where names of classes have no colon.
-use Rattle.std.proofs.Common.{◌≡◌, ◌≢◌, ℕ, zero, suc, ◌<◌, List, [], ◌∷◌, ◌++◌, length, map, refl, sym, subst, ap, ◌∙◌, inl, inr, arith}
-use Rattle.std.specs.Prelude.{Bool, true, false, not, ◌&&◌, ◌⊎◌, IsTrue, Option, Some, None, codes, slice_get, get_or, position, AllPairs, slice_index_or}
+use Rattle.std.proofs.Common.{◌≡◌, ℕ, zero, suc, ◌<◌, List, [], ◌∷◌, ◌++◌, length, map, refl, sym, subst, ap, ◌∙◌, inl, inr, arith}
+use Rattle.std.specs.Prelude.{Bool, true, false, not, ◌&&◌, ◌⊎◌, Option, Some, None, codes, get_or, position, AllPairs, slice_index_or}
 use Rattle.std.specs.List.{list_any}
 use Rattle.std.specs.Str.{bytes_eq}
 use Rattle.std.proofs.lemmas.Slice.Eq.{bytes_eq-Decides}
 use Rattle.std.proofs.lemmas.List.Quantifiers.{position-Some}
 use Rattle.std.proofs.lemmas.Option.{slice_get-get_or}
-use Rattle.mm_classes.specs.declared.class.Ty.{Ty}
 use Rattle.mm_classes.specs.declared.class.Member.{Member}
 use Rattle.mm_classes.specs.declared.class.MemberKind.{MemberKind}
 use Rattle.mm_classes.specs.declared.class.MemberKind.TheVariants as kind
-use Rattle.mm_classes.specs.Lists.{Has, first, later, Distinct}
+use Rattle.mm_classes.specs.Lists.{Has, Distinct}
 use Rattle.mm_classes.specs.Classes.{Class, class_at, members_of, name_of, names_in, is_field, unknown, IsClassList, IsComplete, AreOverloads, AreApart}
 use Rattle.mm_classes.proofs.Answering.{Has-get_or, place_from_Has}
 use Rattle.mm_classes.proofs.Lists.{Has-map}
-use Rattle.mm_core.specs.declared.part.CoreParam.{CoreParam}
 use Rattle.mm_core.specs.Tree.{Function, Program}
-use Rattle.mm_core.specs.Heads.{type_code, same_types, params_in, result_in, types_of_params, is_method, owner_of, function_of, is_open}
+use Rattle.mm_core.specs.Heads.{type_code, same_types, params_in, result_in, types_of_params, is_method, owner_of, is_open}
 use Rattle.mm_core.specs.ValidProgram.{IsFunctionOf}
 use Rattle.mm_core.proofs.Entering.{slice-Has, same_types_is}
 use Rattle.mm_core.proofs.Sets.{and_is, is_and, any-from, any-has}
@@ -160,13 +158,16 @@ module _ (p : Program) (ok : IsClassList p.classes) (words : AreWords p.classes)
         let o = members h inside b.0 in
         let y = o.2 in
         let q = class_of_name g ok words o.0 c o.1.name m.name y.complete.0 x.complete.0 (sym y.name ∙ s.1) in
-        let same : m ≡ o.1 = one_member (members_of g c) (ok.members c).apart o.1 m (subst (λ z. Has (members_of g z) o.1) q.0 y.has) x.has q.1 (sym y.params ∙ sym s.2) in
-        (n, h, record {
-          number = e;
-          there = there;
-          member = b.0;
-          owner = owner_is g ok words o.0 o.1 h y ∙ ap Some q.0;
-          params = sym s.2;
-          result = y.result ∙ ap (λ (z : Member). result_in z.kind) (sym same);
-          closed = closed h inside;
-        })
+        let same : m ≡ o.1 = one_member (members_of g c) (ok.members c).apart o.1 m (subst (λ z. Has (members_of g z) o.1) q.0 y.has) x.has q.1 (sym y.params ∙ sym s.2) in (
+          n,
+          h,
+          record {
+            number = e;
+            there = there;
+            member = b.0;
+            owner = owner_is g ok words o.0 o.1 h y ∙ ap Some q.0;
+            params = sym s.2;
+            result = y.result ∙ ap (λ (z : Member). result_in z.kind) (sym same);
+            closed = closed h inside;
+          },
+        )

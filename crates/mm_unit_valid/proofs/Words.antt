@@ -1,5 +1,5 @@
 -- Names with a colon, with a `~`, and with neither.
-use Rattle.std.proofs.Common.{◌≡◌, ℕ, List, [], ◌∷◌, ◌++◌, refl, sym, subst, ap₂, ◌∙◌, inl, inr}
+use Rattle.std.proofs.Common.{◌≡◌, ℕ, List, [], ◌∷◌, ◌++◌, refl, sym, subst, ap₂, ◌∙◌}
 use Rattle.std.proofs.lemmas.List.{append_assoc}
 use Rattle.mm_classes.specs.Lists.{Has, first, later}
 use Rattle.mm_classes.proofs.Lists.{Has-right}

@@ -1,2 +1,4 @@
-//! The program of a typed unit with classes is valid.
+//! The program of a typed unit is valid, with its classes.
 #![tactic(auto)]
+
+pub mod law;
