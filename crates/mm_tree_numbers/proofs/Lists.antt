@@ -1,8 +1,6 @@
 -- What holds of each of a list, one after another.
 use Rattle.std.proofs.Common.{◌≡◌, ℕ, ◌+◌, ◌<◌, ◌≤◌, List, [], ◌∷◌, length, get_or, drop, sym, ap, ◌∙◌, subst}
 use Rattle.std.proofs.lemmas.List.{drop_all, drop_more}
-use Rattle.mm_syntax.specs.Tree as t
-use Rattle.mm_typing_valid.specs.Numbers.{DeclsInRange}
 
 module _ {A : Type 0} (Each : List A → Type 0) (One : A → Type 0) (cons : (x : A) (xs : List A) → One x → Each xs → Each (x ∷ xs)) (nil : Each []) where
   pub next : (xs : List A) (i : ℕ) (x : A) → x ≡ get_or xs i x → i < length xs → One x → (Each (drop i xs) → Each xs) → Each (drop (i + 1) xs) → Each xs
@@ -12,8 +10,3 @@ module _ {A : Type 0} (Each : List A → Type 0) (One : A → Type 0) (cons : (x
 
   pub end : (xs : List A) (i : ℕ) → length xs ≤ i → (Each (drop i xs) → Each xs) → Each xs
   end xs i past so = so (subst Each (sym (drop_all i xs past)) nil)
-
--- a declaration before others
-pub decl_and : (x : t.Decl) (xs : List t.Decl) → DeclsInRange (x ∷ []) → DeclsInRange xs → DeclsInRange (x ∷ xs)
-decl_and (t.function_decl p x) xs h k = (h.0, k)
-decl_and (t.class_decl p x) xs h k = k

@@ -1,11 +1,11 @@
 //! The numbers of a unit's tree, each of which has 32 bits.
 #![tactic(auto)]
 
-ghost use Rattle.std.specs.Prelude.{◌<◌, ◌^◌, [], ◌∷◌, map};
-ghost use Rattle.mm_syntax.specs.View.{expr_view, exprs_view, maybe_view, initializer_view, declarator_view, start_view, stmt_view, stmts_view, function_kind_view, decl_view, unit_view};
-ghost use Rattle.mm_typing_valid.specs.Numbers.{IsInRange, AreInRange, MaybeInRange, InitializerInRange, DeclaratorsInRange, StartInRange, StmtInRange, StmtsInRange, FunctionInRange, DeclsInRange};
+ghost use Rattle.std.specs.Prelude.{◌<◌, ◌^◌, map};
+ghost use Rattle.mm_syntax.specs.View.{expr_view, exprs_view, maybe_view, initializer_view, declarator_view, start_view, stmt_view, stmts_view, maybe_stmt_view, function_view, item_view, class_view, decl_view, unit_view};
+ghost use Rattle.mm_typing_valid.specs.Numbers.{IsInRange, AreInRange, MaybeInRange, InitializerInRange, DeclaratorsInRange, StartInRange, StmtInRange, StmtsInRange, BodyInRange, FunctionInRange, ItemInRange, ItemsInRange, ClassInRange, DeclInRange, DeclsInRange};
 
-use mm_syntax::decl::{Decl, DeclKind, FnDecl, FnDeclKind, Unit};
+use mm_syntax::decl::{ClassDecl, ClassDeclKind, Decl, DeclKind, FnDecl, FnDeclKind, Member, Unit};
 use mm_syntax::expr::{Expr, ExprKind};
 use mm_syntax::name::Number;
 use mm_syntax::stmt::{Declarator, ForStart, Initializer, Stmt, StmtKind};
@@ -141,26 +141,61 @@ fn stmts(list: &[Stmt])
     }
 }
 
+fn body(tree: &Option<Stmt>)
+    ensures { BodyInRange (maybe_stmt_view tree.now) }
+{
+    match tree {
+        Some(tree) => stmt(tree),
+        None => (),
+    }
+}
+
 fn function(tree: &FnDecl)
-    ensures { FunctionInRange (function_kind_view tree.now.place tree.now.kind) }
+    ensures { FunctionInRange (function_view tree.now) }
 {
     match &tree.kind {
-        FnDeclKind::Definition(_, body) => stmt(body),
+        FnDeclKind::Definition(_, block) => stmt(block),
+        FnDeclKind::MemberDefinition(_, _, block) => stmt(block),
+        FnDeclKind::Method(_, _, block) => body(block),
         FnDeclKind::Declaration(_)
-        | FnDeclKind::MemberDefinition(_, _, _)
         | FnDeclKind::ConstructorDefinition(_, _, _, _)
-        | FnDeclKind::Method(_, _, _)
         | FnDeclKind::Destructor(_, _, _)
         | FnDeclKind::Constructor(_, _, _) => (),
     }
 }
 
+fn member(tree: &Member)
+    ensures { ItemInRange (item_view tree.now) }
+{
+    match tree {
+        Member::Access(_) | Member::Fields(_, _) => (),
+        Member::Function(tree) => function(tree),
+    }
+}
+
+fn members(list: &[Member])
+    ensures { ItemsInRange (map item_view list.now) }
+{
+    for tree in list {
+        member(tree);
+    }
+}
+
+fn class(tree: &ClassDecl)
+    ensures { ClassInRange (class_view tree.now) }
+{
+    match &tree.kind {
+        ClassDeclKind::Declaration(_, _) => (),
+        ClassDeclKind::Definition(_, _, _, list, _) => members(list.as_slice()),
+    }
+}
+
 fn decl(tree: &Decl)
-    ensures { DeclsInRange (decl_view tree.now ∷ []) }
+    ensures { DeclInRange (decl_view tree.now) }
 {
     match &tree.kind {
         DeclKind::Function(tree) => function(tree),
-        DeclKind::Class(_) => (),
+        DeclKind::Class(tree) => class(tree),
     }
 }
 
@@ -172,7 +207,8 @@ fn decls(list: &[Decl])
     }
 }
 
-/// That each number of a unit's tree has 32 bits, which its type says. Nothing is changed.
+/// That each number in the bodies of a unit has 32 bits, which its type says, but for those of
+/// constructors. Nothing is changed.
 pub fn read_numbers(unit: &Unit)
     ensures { DeclsInRange (unit_view unit.now).decls }
 {

@@ -28,7 +28,7 @@ use Rattle.mm_typing_valid.specs.Numbers.{IsInRange, InitializerInRange, Declara
 use Rattle.mm_typing_valid.specs.Seen.{IsVarIn, AreOutside, IsSeen}
 use Rattle.mm_typing_valid.specs.Expressions.{IsOf}
 use Rattle.mm_typing_valid.specs.Names.{NamesOnly, InitializerNamesOnly, DeclaratorsNameOnly, StartNamesOnly, MaybeNamesOnly, StmtNamesOnly, StmtsNameOnly}
-use Rattle.mm_typing_valid.specs.Statements.{Begins, AreVarsIn, ThisIsSet, IsAround, TypedStmtIsValid, TypedStmtExtends}
+use Rattle.mm_typing_valid.specs.Statements.{Begins, AreVarsIn, ThisIsSet, IsAround, HasArguments, TypedStmtIsValid, TypedStmtExtends}
 use Rattle.mm_typing_valid.proofs.Conversions.{void_is as void_here, suits, suits_exactly}
 use Rattle.mm_typing_valid.proofs.Expressions.{typed_valid, typed_as_is_valid}
 use Rattle.mm_typing_valid.proofs.Declarators.{type_typed, IsSpecified, specified_is, value_is, kept_is, Makes, SetsZero, begun_is}
@@ -63,6 +63,9 @@ module _ (a : Around) (result : Ty) where
   make_valid l known locals t c m b is done =
       let e = at_end locals a.locals t b in
       (m, e.0, (c, (e.1 ∙ is, done)))
+
+  still_has : (ts us : List Ty) → HasArguments a ts → length ts ≤ length us → HasArguments a us
+  still_has ts us m longer c done = let n = m c done in omega arith
 
   module _ (env : Environment) (around : IsAround a env) where
     abbrev AreOut : syntax.Expr → Type 0
@@ -100,11 +103,12 @@ module _ (a : Around) (result : Ty) where
       abbrev of_mark : Option DeclaratorMark → Ty
       of_mark mark = variable_type mark s
 
-      module _ (vs : List Var) (locals : List Ty) (mark : Option DeclaratorMark) (name : Name) (b : k.Stmt) (l : Bool) (known : List ℕ) (m : a.arguments ≤ length locals) (begins : Begins (locals ++ of_mark mark ∷ []) a.locals) where
+      module _ (vs : List Var) (locals : List Ty) (mark : Option DeclaratorMark) (name : Name) (b : k.Stmt) (l : Bool) (known : List ℕ) (m : HasArguments a locals) (begins : Begins (locals ++ of_mark mark ∷ []) a.locals) where
         made_valid : IsTrue (is_whole env.classes mark s) → Makes env.classes (length locals) mark s b → IsValidStmt a result l known b
         made_valid whole x =
-            let done = complete_below env.classes x.0 (sym x.2 ∙ whole) in
-            subst (IsValidStmt a result l known) x.4 (make_valid l known locals (of_mark mark) x.0 m begins x.1 (subst (λ g. IsComplete g x.0) same (done, sym x.2 ∙ whole)))
+            let done = sym x.2 ∙ whole in
+            let complete = subst (λ g. IsComplete g x.0) same (complete_below env.classes x.0 done, done) in
+            subst (IsValidStmt a result l known) x.4 (make_valid l known locals (of_mark mark) x.0 (m x.0 complete) begins x.1 complete)
 
         zero_set_valid : SetsZero (length locals) mark s b → IsValidStmt a result l known b
         zero_set_valid x =
@@ -125,7 +129,7 @@ module _ (a : Around) (result : Ty) where
             subst (IsValidStmt a result l known) h.2.2.2.2.2 (set_valid l known locals h.2.2.0 c (subst (λ t. Begins (locals ++ t ∷ []) a.locals) w.0 begins) v.0 v.1)
         starts_valid (syntax.arguments es) this f r q h = absurd h
 
-      all_start : (known : List ℕ) (vs : List Var) (locals : List Ty) (xs : List syntax.Declarator) (v : Made (List k.Stmt)) (l : Bool) → ThisIsSet env known → AreVarsIn a known vs → DeclaratorsInRange xs → DeclaratorsNameOnly (AreOutside a env) xs → a.arguments ≤ length locals → Begins v.locals a.locals → AllBegin env here y s vs locals xs v
+      all_start : (known : List ℕ) (vs : List Var) (locals : List Ty) (xs : List syntax.Declarator) (v : Made (List k.Stmt)) (l : Bool) → ThisIsSet env known → AreVarsIn a known vs → DeclaratorsInRange xs → DeclaratorsNameOnly (AreOutside a env) xs → HasArguments a locals → Begins v.locals a.locals → AllBegin env here y s vs locals xs v
           → AreValidStmts a result l known (stmts_of v.tree)
       all_start known vs locals [] v l this f r q m b h = subst (λ (w : Made (List k.Stmt)). AreValidStmts a result l known (stmts_of w.tree)) h tt
       all_start known vs locals (x ∷ xs) v l this f r q m b h =
@@ -140,7 +144,7 @@ module _ (a : Around) (result : Ty) where
           let longer = no_shorter locals (locals ++ t ∷ []) (t ∷ [], refl) in
           subst (λ (w : Made (List k.Stmt)). AreValidStmts a result l known (stmts_of w.tree)) h.2.2 (
             starts_valid vs locals x.mark x.name h.0 l known m deeper x.initializer this f r.0 q.0 h.1,
-            all_start now next (locals ++ t ∷ []) xs h.2.0 l (this_after env (h.0 ∷ []) known this) g r.1 q.1 (omega arith) stays h.2.1,
+            all_start now next (locals ++ t ∷ []) xs h.2.0 l (this_after env (h.0 ∷ []) known this) g r.1 q.1 (still_has locals (locals ++ t ∷ []) m longer) stays h.2.1,
           )
 
     -- ---- parts
@@ -148,7 +152,7 @@ module _ (a : Around) (result : Ty) where
     same_classes : (known : List ℕ) → ThisIsSet env known → env.classes ≡ a.classes
     same_classes known this = (around known this).classes
 
-    start_valid : (here : Here) (known : List ℕ) (vs : List Var) (locals : List Ty) (x : syntax.Start) (v : Made (List k.Stmt)) (l : Bool) → ThisIsSet env known → AreVarsIn a known vs → StartInRange x → StartNamesOnly (AreOutside a env) x → a.arguments ≤ length locals → Begins v.locals a.locals → StartTypes env here vs locals x v
+    start_valid : (here : Here) (known : List ℕ) (vs : List Var) (locals : List Ty) (x : syntax.Start) (v : Made (List k.Stmt)) (l : Bool) → ThisIsSet env known → AreVarsIn a known vs → StartInRange x → StartNamesOnly (AreOutside a env) x → HasArguments a locals → Begins v.locals a.locals → StartTypes env here vs locals x v
         → AreValidStmts a result l known (stmts_of v.tree)
     start_valid here known vs locals syntax.no_start v l this f r q m b h = subst (λ (w : Made (List k.Stmt)). AreValidStmts a result l known (stmts_of w.tree)) h (tt, tt)
     start_valid here known vs locals (syntax.start_expr e) v l this f r q m b h = subst (λ (w : Made (List k.Stmt)). AreValidStmts a result l known (stmts_of w.tree)) h.2 (expr_valid known vs e h.0 l this f r q h.1, tt)
@@ -174,7 +178,7 @@ module _ (a : Around) (result : Ty) where
     ValidTree l known v = AreValidStmts a result l known (stmts_of v.tree)
 
     mutual
-      pub stmt_valid : (here : Here) → result ≡ here.result → IsTyped (length a.classes) here.result → (known : List ℕ) (vs : List Var) (locals : List Ty) (s : syntax.Stmt) (v : Made (List k.Stmt)) → ThisIsSet env known → AreVarsIn a known vs → StmtInRange s → StmtNamesOnly (AreOutside a env) s → a.arguments ≤ length locals → Begins v.locals a.locals → StmtTypes env here vs locals s v
+      pub stmt_valid : (here : Here) → result ≡ here.result → IsTyped (length a.classes) here.result → (known : List ℕ) (vs : List Var) (locals : List Ty) (s : syntax.Stmt) (v : Made (List k.Stmt)) → ThisIsSet env known → AreVarsIn a known vs → StmtInRange s → StmtNamesOnly (AreOutside a env) s → HasArguments a locals → Begins v.locals a.locals → StmtTypes env here vs locals s v
           → ValidTree here.in_loop known v
       stmt_valid here same w known vs locals (syntax.block p ss) v this f r q m b h = all_valid (within here vs) same w known vs locals ss v this f r q m b h
       stmt_valid here same w known vs locals (syntax.empty p) v this f r q m b h = subst (ValidTree here.in_loop known) h tt
@@ -190,7 +194,7 @@ module _ (a : Around) (result : Ty) where
           let later = stmt_extends env (within here vs) vs h.2.0.locals u h.2.2.0 h.2.2.1 in
           let longer = no_shorter locals h.2.0.locals (stmt_extends env (within here vs) vs locals s h.2.0 h.2.1) in
           let x = stmt_valid (within here vs) same w known vs locals s h.2.0 this f r.1 q.1 m (further h.2.0.locals h.2.2.0.locals a.locals later stays) h.2.1 in
-          let y = stmt_valid (within here vs) same w known vs h.2.0.locals u h.2.2.0 this f r.2 q.2 (omega arith) stays h.2.2.1 in
+          let y = stmt_valid (within here vs) same w known vs h.2.0.locals u h.2.2.0 this f r.2 q.2 (still_has locals h.2.0.locals m longer) stays h.2.2.1 in
           subst (ValidTree here.in_loop known) h.2.2.2 ((test_is known vs e h.0 this f r.0 q.0 h.1, x, y), tt)
       stmt_valid here same w known vs locals (syntax.while_do p e s) v this f r q m b h =
           let stays = subst (λ (w : Made (List k.Stmt)). Begins w.locals a.locals) (sym h.2.2) b in
@@ -211,7 +215,7 @@ module _ (a : Around) (result : Ty) where
           let vars = vars_started env a (same_classes known this) (within here vs) known vs locals start h.0 f begun h.1 in
           let x = start_valid (within here vs) known vs locals start h.0 here.in_loop this f r.0 q.0 m begun h.1 in
           let step = step_valid now all s h.2.1.2.0 true known_this vars r.2 q.2 h.2.1.2.1 in
-          let y = stmt_valid (turn_within here all) same w now all h.0.locals u g.0 known_this vars r.3 q.3 (omega arith) stays g.1 in
+          let y = stmt_valid (turn_within here all) same w now all h.0.locals u g.0 known_this vars r.3 q.3 (still_has locals h.0.locals m longer) stays g.1 in
           let loop = subst (λ (w : Made k.Stmt). IsValidStmt a result here.in_loop now w.tree) g.2
           (test_valid now all c h.2.1.0 known_this vars r.1 q.1 h.2.1.1, step.0, step.1, y) in
           subst (ValidTree here.in_loop known) h.2.2 (both_valid here.in_loop h.0.tree (h.2.0.tree ∷ []) known x (loop, tt))
@@ -220,7 +224,7 @@ module _ (a : Around) (result : Ty) where
       stmt_valid here same w known vs locals (syntax.return_nothing p) v this f r q m b h = subst (ValidTree here.in_loop known) h.2 (same ∙ void_here here.result h.1, tt)
       stmt_valid here same w known vs locals (syntax.return p e) v this f r q m b h = subst (ValidTree here.in_loop known) h.2.2.2 (return_valid known vs here.result e h.2.2.0 here.in_loop same w this f r q (h.0, h.1, h.2.2.1), tt)
 
-      all_valid : (here : Here) → result ≡ here.result → IsTyped (length a.classes) here.result → (known : List ℕ) (vs : List Var) (locals : List Ty) (ss : syntax.Stmts) (v : Made (List k.Stmt)) → ThisIsSet env known → AreVarsIn a known vs → StmtsInRange ss → StmtsNameOnly (AreOutside a env) ss → a.arguments ≤ length locals → Begins v.locals a.locals → StmtsType env here vs locals ss v
+      all_valid : (here : Here) → result ≡ here.result → IsTyped (length a.classes) here.result → (known : List ℕ) (vs : List Var) (locals : List Ty) (ss : syntax.Stmts) (v : Made (List k.Stmt)) → ThisIsSet env known → AreVarsIn a known vs → StmtsInRange ss → StmtsNameOnly (AreOutside a env) ss → HasArguments a locals → Begins v.locals a.locals → StmtsType env here vs locals ss v
           → ValidTree here.in_loop known v
       all_valid here same w known vs locals syntax.no_stmts v this f r q m b h = subst (ValidTree here.in_loop known) h tt
       all_valid here same w known vs locals (syntax.stmt_and s ss) v this f r q m b h =
@@ -232,7 +236,7 @@ module _ (a : Around) (result : Ty) where
           let longer = no_shorter locals h.0.locals (stmt_extends env here vs locals s h.0 h.1) in
           let x = stmt_valid here same w known vs locals s h.0 this f r.0 q.0 m begun h.1 in
           let g = vars_behind env a (same_classes known this) here known vs locals s h.0 f begun h.1 in
-          let y = all_valid here same w now behind_s h.0.locals ss h.2.0 (this_after env nodes known this) g r.1 q.1 (omega arith) stays h.2.1 in
+          let y = all_valid here same w now behind_s h.0.locals ss h.2.0 (this_after env nodes known this) g r.1 q.1 (still_has locals h.0.locals m longer) stays h.2.1 in
           subst (ValidTree here.in_loop known) h.2.2 (both_valid here.in_loop nodes h.2.0.tree known (nodes_valid here.in_loop s h.0.tree known x) y)
 
 pub typed_stmt_is_valid : TypedStmtIsValid

@@ -122,7 +122,7 @@ module _ (d : Declarations) (bare : d.classes ≡ []) (x : Head) (h : Heading) (
         valid = typed_stmt_is_valid a (seen d None) (seen_around a fs refl (λ f. refl) e ok.fine d bare refl) (body_here h.result) (parameters_from d.classes 0 x.params.list) h.params body b
             (numbers_below a.arguments) (λ c e. cc)
             (params_vars (seen d None) a bare (numbers_below a.arguments) a.arguments (below_has a.arguments) [] x.params.list h.params [] typed (let n = arguments in omega arith) (further h.params b.locals a.locals begins all))
-            (type_typed [] h.result result) range (stmt_names (AreOutside a (seen d None)) (names_outside a fs refl (λ f. refl) e ok.fine d refl) body) (let n = arguments in omega arith) all types
+            (type_typed [] h.result result) range (stmt_names (AreOutside a (seen d None)) (names_outside a fs refl (λ f. refl) e ok.fine d refl) body) (λ c done. let n = arguments in omega arith) all types
 
   with_defined : list_any (is_function x.name.text h.params) fs ≡ true → ((g : k.Function) → known fs x.name.text h.params ≡ Some g → is_function x.name.text h.params g ≡ true → g.result ≡ h.result) → AreFine after
   with_defined there results = record {

@@ -2,7 +2,7 @@
 use Rattle.std.specs.Prelude.{◌≡◌, ℕ, ◌≤◌, ◌++◌, List, [], length, Some}
 use Rattle.mm_classes.specs.declared.class.Ty.{Ty}
 use Rattle.mm_classes.specs.Lists.{Has}
-use Rattle.mm_classes.specs.Classes.{Class, IsTyped}
+use Rattle.mm_classes.specs.Classes.{Class, IsComplete, IsTyped}
 use Rattle.mm_core.specs.Tree as k
 use Rattle.mm_core.specs.Valid.{Around, AreValidStmts}
 use Rattle.mm_core.specs.ValidProgram.{IsVariable}
@@ -34,16 +34,21 @@ ThisIsSet env known = (c : ℕ) → env.from.class ≡ Some c → Has known 0
 abbrev pub IsAround : Around → Environment → Type 0
 IsAround a env = (known : List ℕ) → ThisIsSet env known → IsSeen a known (inside env [])
 
+-- where objects may be made, the arguments are among these locals
+abbrev pub HasArguments : Around → List Ty → Type 0
+HasArguments a locals = (c : ℕ) → IsComplete a.classes c → a.arguments ≤ length locals
+
 -- What a statement is typed as is valid in any function whose locals begin with those that were
--- numbered so far, all arguments among them, wherever the references that it sees were set. It
--- stands in one list of statements, of which each may read what those before it set.
+-- numbered so far, wherever the references that it sees were set. It stands in one list of
+-- statements, of which each may read what those before it set. Class variables stand behind the
+-- arguments.
 abbrev pub TypedStmtIsValid : Type 0
 TypedStmtIsValid = (a : Around) (env : Environment) → IsAround a env
     → (here : Here) (vs : List Var) (locals : List Ty) (s : t.Stmt) (v : Made (List k.Stmt))
     → (known : List ℕ) → ThisIsSet env known → AreVarsIn a known vs
     → IsTyped (length a.classes) here.result
     → StmtInRange s → StmtNamesOnly (AreOutside a env) s
-    → a.arguments ≤ length locals → Begins v.locals a.locals
+    → HasArguments a locals → Begins v.locals a.locals
     → StmtTypes env here vs locals s v
     → AreValidStmts a here.result here.in_loop known (stmts_of v.tree)
 

@@ -1,14 +1,14 @@
-use Rattle.std.proofs.Common.{[], ◌∷◌, map}
+use Rattle.std.proofs.Common.{map}
 use Rattle.mm_syntax.specs.View.{decl_view}
-use Rattle.mm_typing_valid.specs.Numbers.{DeclsInRange}
-use Rattle.mm_tree_numbers.proofs.Lists.{next, end, decl_and}
+use Rattle.mm_typing_valid.specs.Numbers.{DeclsInRange, DeclInRange}
+use Rattle.mm_tree_numbers.proofs.Lists.{next, end}
 use Rattle.mm_tree_numbers.proofs.decls.Goals as goal
 
 pub loop-tree-init : goal.loop-tree-init
 loop-tree-init c = λ h. h
 
 pub loop-tree-preserved : goal.loop-tree-preserved
-loop-tree-preserved c = next (λ xs. DeclsInRange (map decl_view xs)) (λ x. DeclsInRange (decl_view x ∷ [])) (λ x xs. decl_and (decl_view x) (map decl_view xs)) tt c.args.list.now c.loop-tree.tree-index c.tree-item.result c.tree-item.is c.loop-tree-test.true c.decl.ensures c.loop-tree.invariant
+loop-tree-preserved c = next (λ xs. DeclsInRange (map decl_view xs)) (λ x. DeclInRange (decl_view x)) (λ x xs h k. (h, k)) tt c.args.list.now c.loop-tree.tree-index c.tree-item.result c.tree-item.is c.loop-tree-test.true c.decl.ensures c.loop-tree.invariant
 
 pub returns : goal.returns
-returns c = end (λ xs. DeclsInRange (map decl_view xs)) (λ x. DeclsInRange (decl_view x ∷ [])) (λ x xs. decl_and (decl_view x) (map decl_view xs)) tt c.args.list.now c.loop-tree.tree-index c.loop-tree-test.false c.loop-tree.invariant
+returns c = end (λ xs. DeclsInRange (map decl_view xs)) (λ x. DeclInRange (decl_view x)) (λ x xs h k. (h, k)) tt c.args.list.now c.loop-tree.tree-index c.loop-tree-test.false c.loop-tree.invariant
