@@ -1,5 +1,5 @@
 -- What stands around a body whose code is written, and what its code is. (Own.)
-use Rattle.std.specs.Prelude.{ℕ, suc, List, [], map}
+use Rattle.std.specs.Prelude.{ℕ, suc, false, List, [], map}
 use Rattle.mm_classes.specs.declared.class.Ty.{Ty}
 use Rattle.mm_core.specs.declared.tree.CoreFn.{CoreFn}
 use Rattle.mm_core.specs.Tree.{Expr, Exprs, Stmt, Stmts, Program}
@@ -17,7 +17,15 @@ program_of fs = record { classes = []; functions = map function_view fs }
 
 -- no object stands anywhere
 abbrev pub no_layout : Layout
-no_layout = record { size = λ c. 0; offset = λ c p. 0; member = λ c f. 0 }
+no_layout = record {
+  size = λ c. 0;
+  offset = λ c p. 0;
+  member = λ c f. 0;
+  tagged = λ c. false;
+  owns = λ c. false;
+  mark = λ c. 0;
+  tag = λ c p. 0;
+}
 
 abbrev pub around_in : Scope → Around
 around_in s = record { classes = []; functions = map function_view s.functions.now; callable = is_defined; locals = s.locals.now; arguments = s.arguments }

@@ -25,7 +25,7 @@ use Rattle.mm_c.specs.Tree as c
 use Rattle.mm_c.specs.Tree.{Code, done, do_then, ◌⨾◌, just}
 use Rattle.mm_c.specs.WellFormed.{Here, callable, kind_number, entry_in, kind_in, is_of, fits, right_fits, both_fit, binary_fits, is_arithmetic, stmt_breaks, code_breaks}
 use Rattle.mm_c.specs.WellFormed as rules
-use Rattle.mm_core.specs.Tree.{Expr, int, unsigned, bool, local, set_local, convert, binary, negation, both, either, choose, call, builtin, step_local, Exprs, no_exprs, expr_and, Function}
+use Rattle.mm_core.specs.Tree.{Expr, int, unsigned, bool, local, set_local, field, set_field, not_null, move, convert, binary, negation, both, either, choose, call, builtin, step_local, step_field, compound, Exprs, no_exprs, expr_and, Function}
 use Rattle.mm_core.specs.Heads.{type_at, is_open, argument_types}
 use Rattle.mm_core.specs.Valid.{Around, type_of, types_of, compares, is_number, is_pointer, type_answered, result_of_function, types_asked, AllSuit, AreOperands, IsValid, AreValid}
 use Rattle.mm_agree.specs.Agree.{Layout, kind_of, cell_of}
@@ -115,6 +115,12 @@ reach_some (choose e d f) = omega (arith, reach_some e)
 reach_some (call f es) = omega arith
 reach_some (builtin b es) = omega arith
 reach_some (step_local x change) = omega arith
+reach_some (field f e) = reach_some e
+reach_some (set_field f e d) = omega (arith, reach_some e)
+reach_some (not_null e) = reach_some e
+reach_some (move d n e) = reach_some e
+reach_some (step_field f change e) = omega arith
+reach_some (compound op f e d) = omega arith
 reach_some other = omega arith
 
 numbers_are : (op : Operator) (t u : Ty) → is_pointer t ≡ false → AreOperands op t u → IsTrue (is_number t) × (t ≡ u)

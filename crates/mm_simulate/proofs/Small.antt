@@ -1,6 +1,6 @@
 -- The code of a tree declares no names in its blocks, and they stand in one another no deeper than the tree's parts do.
 use Rattle.std.proofs.Common.{◌≡◌, ℕ, suc, ◌+◌, ◌≤◌, max, List, [], ◌++◌, refl, ap, ◌∙◌, arith}
-use Rattle.std.specs.Prelude.{Bool, true, false, ◌∷◌}
+use Rattle.std.specs.Prelude.{Bool, true, false, ◌∷◌, nat_eq, codes, if◌then◌else◌}
 use Rattle.mm_classes.specs.declared.class.Ty.{Ty}
 use Rattle.mm_classes.specs.declared.class.Ty.TheVariants as ty
 use Rattle.mm_core.specs.declared.part.Operator.{Operator}
@@ -8,17 +8,25 @@ use Rattle.mm_core.specs.declared.part.Operator.TheVariants as by
 use Rattle.mm_core.specs.declared.part.Target.{Target}
 use Rattle.mm_core.specs.declared.part.Target.TheVariants as to
 use Rattle.mm_core.specs.declared.part.Change.{Change}
-use Rattle.mm_core.specs.Tree.{Expr, int, unsigned, bool, local, set_local, convert, binary, negation, both, either, choose, call, builtin, step_local, Exprs, no_exprs, expr_and, Stmt, block, run, if_else, while_do, do_while, for_do, break, continue, return_nothing, return, Stmts, no_stmts, stmt_and}
+use Rattle.mm_core.specs.Tree.{Expr, int, unsigned, bool, null, local, set_local, field, set_field, not_null, move, convert, binary, negation, both, either, choose, call, builtin, new, step_local, step_field, compound, Exprs, no_exprs, expr_and, Stmt, block, run, if_else, while_do, do_while, for_do, break, continue, return_nothing, return, make, Stmts, no_stmts, stmt_and}
 use Rattle.mm_core.specs.Valid.{Around, type_of, type_answered}
-use Rattle.mm_core.specs.Heads.{type_at}
+use Rattle.mm_core.specs.Heads.{type_at, class_shown}
+use Rattle.mm_classes.specs.Classes.{Class}
+use Rattle.mm_classes.specs.Subobjects.{Path, subobjects_of, end_of}
+use Rattle.mm_classes.specs.Questions.{node}
+use Rattle.mm_c.specs.declared.value.CCell.TheVariants as cell
+use Rattle.mm_c.specs.declared.tree.CAtom.TheVariants.{Name}
+use Rattle.mm_c.specs.declared.tree.COperator.TheVariants as o
+use Rattle.mm_c.specs.declared.tree.CExpr.TheVariants.{Binary, Call}
 use Rattle.mm_c.specs.declared.tree.CExpr.{CExpr}
 use Rattle.mm_c.specs.declared.tree.CCall.{CCall}
 use Rattle.mm_c.specs.declared.tree.CCall.TheVariants.{Named}
-use Rattle.mm_c.specs.Tree as c
+use Rattle.mm_c.specs.Tree as tree
 use Rattle.mm_c.specs.Tree.{Code, done, do_then, ◌⨾◌, just}
 use Rattle.mm_c.specs.WellFormed.{code_locals, stmt_locals, code_depth}
 use Rattle.mm_agree.specs.Agree.{Layout}
-use Rattle.mm_simulate.specs.Lowered.{block_of, set, only_if, if_or, i_, on_int, on_word, operator, conversion, step_code, called_for, builtin_name, atoms_from, break_unless, flagged, step_in, looped, lowered, lowered_all, lowered_stmt, lowered_stmts, ending, nesting, nesting_all, nesting_stmt, nesting_stmts, effect, step_only}
+use Rattle.mm_simulate.specs.LoweredObjects.{past, null_trap, load_code, put_code, step_field_code, as_number, common_type, compound_code, add_code, shift_code, way_code, unless_null, move_code, marks_code, new_code}
+use Rattle.mm_simulate.specs.Lowered.{plain, word, p_, v_, block_of, set, only_if, if_or, i_, on_int, on_word, operator, conversion, step_code, called_for, builtin_name, atoms_from, break_unless, flagged, step_in, looped, lowered, lowered_all, lowered_stmt, lowered_stmts, ending, nesting, nesting_all, nesting_stmt, nesting_stmts, effect, step_only}
 
 -- three more for an operator
 pub record Small (n : ℕ) (xs : Code) : Type 0 where
@@ -56,7 +64,7 @@ module _ {n : ℕ} where
   small_only : (x : List ℕ) (p : Code) (m : ℕ) → suc m ≤ n → Small m p → Small n (only_if x p)
   small_only x p m le f = let d = f.deep in record { deep = omega arith; bare = ap (λ z. z ++ []) f.bare }
 
-  small_forever : (p : Code) (m : ℕ) → suc m ≤ n → Small m p → Small n (just (c.forever (block_of p)))
+  small_forever : (p : Code) (m : ℕ) → suc m ≤ n → Small m p → Small n (just (tree.forever (block_of p)))
   small_forever p m le f = let d = f.deep in record { deep = omega arith; bare = ap (λ z. z ++ []) f.bare }
 
 -- ---- operators and steps
@@ -142,6 +150,76 @@ small_ending n (ty.Ptr d) false = record { deep = omega arith; bare = refl }
 small_ending n (ty.Ref d) true = record { deep = omega arith; bare = refl }
 small_ending n (ty.Ref d) false = record { deep = omega arith; bare = refl }
 
+-- ---- objects
+
+small_null_trap : (t : ℕ) → Small 0 (null_trap t)
+small_null_trap t = record { deep = omega arith; bare = refl }
+
+small_put : (t : ℕ) (type : Ty) (n : ℕ) → Small 0 (put_code t type n)
+small_put t type n = record { deep = omega arith; bare = refl }
+
+small_step_field : (t : ℕ) (change : Change) (type : Ty) (n : ℕ) → Small 0 (step_field_code t change type n)
+small_step_field t change ty.Unsigned n = record { deep = omega arith; bare = refl }
+small_step_field t change other n = record { deep = omega arith; bare = refl }
+
+small_as_number : (t : ℕ) (type wanted : Ty) → Small 0 (as_number t type wanted)
+small_as_number t ty.Unsigned ty.Unsigned = small_done
+small_as_number t ty.Unsigned other = small_set _ _
+small_as_number t type ty.Unsigned = small_set _ _
+small_as_number t type other = small_done
+
+small_compound : (t : ℕ) (op : Operator) (type right : Ty) (n : ℕ) → Small 0 (compound_code t op type right n)
+small_compound t op type right n =
+    small_then (as_number t type (common_type type right)) _ (small_as_number t type (common_type type right))
+    (small_then (as_number (suc t) right (common_type type right)) _ (small_as_number (suc t) right (common_type type right))
+    (small_then (operator t op (common_type type right) (common_type type right)) _ (small_operator t op (common_type type right) (common_type type right))
+    (small_then (as_number t (common_type type right) type) _ (small_as_number t (common_type type right) type) (record { deep = omega arith; bare = refl }))))
+
+-- code of assignments alone
+record Flat (xs : Code) : Type 0 where
+  deep : code_depth xs ≡ 0
+  bare : code_locals xs ≡ []
+
+flat_add : (t n : ℕ) → Flat (add_code t n)
+flat_add t n = by (nat_eq n 0)
+  where
+    by : (b : Bool) → Flat (if b then done else set (p_ t) (Binary (Name (p_ t)) o.Add (plain n)))
+    by true = record { deep = refl; bare = refl }
+    by false = record { deep = refl; bare = refl }
+
+flat_shift : (t c v m n : ℕ) → Flat (shift_code t c v m n)
+flat_shift t c v m n = let f = flat_add t n in let d = f.deep in record { deep = omega arith; bare = f.bare }
+
+flat_way : (l : Layout) (t c : ℕ) (q : Path) → Flat (way_code l t c q)
+flat_way l t c [] = record { deep = refl; bare = refl }
+flat_way l t c (v ∷ q) = by (nat_eq v c)
+  where
+    by : (b : Bool) → Flat (if b then add_code t (l.offset c (v ∷ q)) else shift_code t c v (l.mark c) (l.offset v (v ∷ q)))
+    by true = flat_add t (l.offset c (v ∷ q))
+    by false = flat_shift t c v (l.mark c) (l.offset v (v ∷ q))
+
+flat_small : (xs : Code) → Flat xs → Small 0 xs
+flat_small xs f = let d = f.deep in record { deep = omega arith; bare = f.bare }
+
+small_unless_null : (t : ℕ) (xs : Code) → Flat xs → Small 0 (unless_null t xs)
+small_unless_null t done f = small_done
+small_unless_null t (do_then x more) f = let d = f.deep in record { deep = omega arith; bare = ap (λ z. z ++ []) f.bare }
+
+small_move : (l : Layout) (t : ℕ) (type : Ty) (c : ℕ) (q : Path) → Small 0 (move_code l t type c q)
+small_move l t (ty.Ref d) c q = flat_small (way_code l t c q) (flat_way l t c q)
+small_move l t other c q = small_unless_null t (way_code l t c q) (flat_way l t c q)
+
+flat_marks : (l : Layout) (p : List ℕ) (c : ℕ) (ss : List Path) → Flat (marks_code l p c ss)
+flat_marks l p c [] = record { deep = refl; bare = refl }
+flat_marks l p c (s ∷ ss) = by (l.owns (end_of s)) (flat_marks l p c ss)
+  where
+    by : (b : Bool) → Flat (marks_code l p c ss) → Flat (if b then do_then (tree.store cell.Short (past p (l.offset c s + l.mark (end_of s))) (plain (l.tag c s))) (marks_code l p c ss) else marks_code l p c ss)
+    by true f = let d = f.deep in record { deep = omega arith; bare = f.bare }
+    by false f = f
+
+small_new : (g : List Class) (l : Layout) (p : List ℕ) (c : ℕ) → Small 0 (new_code g l p c)
+small_new g l p c = small_then (set p (Call (Named (codes "mm_new") (word (l.size c) ∷ [])))) _ (small_set _ _) (flat_small _ (flat_marks l p c (subobjects_of g c)))
+
 -- ---- trees
 
 module _ (a : Around) (l : Layout) (name : ℕ → List ℕ) where
@@ -167,6 +245,14 @@ module _ (a : Around) (l : Layout) (name : ℕ → List ℕ) where
     small_expr (call f es) t = small_then (lowered_all a l name t es) _ (small_exprs es t) (few _ (small_called t (type_of a (call f es)) (Named (name f) (atoms_from a l name t es))))
     small_expr (builtin b es) t = small_then (lowered_all a l name t es) _ (small_exprs es t) (few _ (small_called t (type_answered b) (Named (builtin_name b) (atoms_from a l name t es))))
     small_expr (step_local x change) t = few _ (small_step t x change (type_at a.locals x))
+    small_expr (null d) t = small_set _ _
+    small_expr (field f e) t = small_then (lowered a l name t e) _ (small_expr e t) (small_set _ _)
+    small_expr (set_field f e d) t = small_then (lowered a l name t e) _ (part _ (omega arith) (small_expr e t)) (small_then (lowered a l name (suc t) d) _ (part _ (omega arith) (small_expr d (suc t))) (few _ (small_put t (type_of a (field f e)) (l.member (class_shown (type_of a e)) f))))
+    small_expr (not_null e) t = small_then (lowered a l name t e) _ (small_expr e t) (few _ (small_null_trap t))
+    small_expr (move d n e) t = small_then (lowered a l name t e) _ (small_expr e t) (few _ (small_move l t (type_of a e) d (node a.classes d n)))
+    small_expr (new d) t = few _ (small_new a.classes l (p_ t) d)
+    small_expr (step_field f change e) t = small_then (lowered a l name t e) _ (small_expr e t) (few _ (small_step_field t change (type_of a (field f e)) (l.member (class_shown (type_of a e)) f)))
+    small_expr (compound op f e d) t = small_then (lowered a l name t e) _ (part _ (omega arith) (small_expr e t)) (small_then (load_code t (type_of a (field f e)) (l.member (class_shown (type_of a e)) f)) _ (small_set _ _) (small_then (lowered a l name (suc t) d) _ (part _ (omega arith) (small_expr d (suc t))) (few _ (small_compound t op (type_of a (field f e)) (type_of a d) (l.member (class_shown (type_of a e)) f)))))
     small_expr other t = small_done
 
     pub small_exprs : (es : Exprs) (t : ℕ) → Small (nesting_all es) (lowered_all a l name t es)
@@ -217,7 +303,7 @@ module _ (a : Around) (l : Layout) (name : ℕ → List ℕ) where
     small_stmt continue t = record { deep = omega arith; bare = refl }
     small_stmt return_nothing t = record { deep = omega arith; bare = refl }
     small_stmt (return e) t = small_then (lowered a l name t e) _ (small_expr e t) (record { deep = omega arith; bare = refl })
-    small_stmt other t = small_done
+    small_stmt (make x) t = small_new a.classes l (v_ x) (class_shown (type_at a.locals x))
 
     pub small_stmts : (ss : Stmts) (t : ℕ) → Small (nesting_stmts ss) (lowered_stmts a l name t ss)
     small_stmts no_stmts t = small_done

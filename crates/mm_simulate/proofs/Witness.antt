@@ -2,7 +2,7 @@
 use Rattle.mm_c.specs.declared.tree.CKind.TheVariants.{Int}
 use Rattle.mm_c.specs.WellFormed.{well_formed}
 use Rattle.std.proofs.Common.{◌≡◌, ℕ, zero, suc, subst, sym, ◌≤◌, List, [], ◌∷◌, refl, inl, arith, Some}
-use Rattle.std.specs.Prelude.{IsTrue, pos, true}
+use Rattle.std.specs.Prelude.{false, IsTrue, pos, true}
 use Rattle.mm_classes.specs.declared.class.Ty.{Ty}
 use Rattle.mm_classes.specs.declared.class.Ty.TheVariants as ty
 use Rattle.mm_classes.specs.Lists.{Has, first, later}
@@ -37,7 +37,7 @@ abbrev program : Program
 program = record { classes = []; functions = main ∷ [] }
 
 abbrev no_layout : Layout
-no_layout = record { size = λ d. 0; offset = λ d s. 0; member = λ d f. 0 }
+no_layout = record { size = λ d. 0; offset = λ d s. 0; member = λ d f. 0; tagged = λ d. false; owns = λ d. false; mark = λ d. 0; tag = λ d s. 0 }
 
 abbrev temps : ℕ → List (CKind × ℕ)
 temps n = (Int, 0) ∷ (Int, 1) ∷ (Int, 2) ∷ []

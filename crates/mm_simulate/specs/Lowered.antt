@@ -1,30 +1,20 @@
 -- The C code of a checked tree. A value goes to the temporary of number t and of its type's kind;
 -- the code changes no temporary below t. No operation of it is stuck. (Own.)
-use Rattle.std.specs.Prelude.{◌≡◌, ℕ, zero, suc, max, ℤ, pos, negsuc, Bool, true, false, nat_eq, List, [], ◌∷◌, ◌++◌, length, map, Option, Some, None, codes, if◌then◌else◌, slice_get}
-use Rattle.mm_base.specs.declared.world.Builtin.{Builtin}
-use Rattle.mm_base.specs.declared.world.Builtin.TheVariants.{Put, Get, More}
+use Rattle.std.specs.Prelude.{◌≡◌, ℕ, zero, suc, max, Bool, true, false, nat_eq, List, [], ◌∷◌, ◌++◌, length, map, Option, Some, None, if◌then◌else◌, slice_get}
 use Rattle.mm_classes.specs.declared.class.Ty.{Ty}
 use Rattle.mm_classes.specs.declared.class.Ty.TheVariants as ty
-use Rattle.mm_core.specs.declared.part.Operator.{Operator}
-use Rattle.mm_core.specs.declared.part.Operator.TheVariants as by
-use Rattle.mm_core.specs.declared.part.Target.{Target}
-use Rattle.mm_core.specs.declared.part.Target.TheVariants as to
-use Rattle.mm_core.specs.declared.part.Change.{Change}
-use Rattle.mm_core.specs.declared.part.Change.TheVariants.{Up, Down}
-use Rattle.mm_core.specs.Tree.{Expr, int, unsigned, bool, local, set_local, convert, binary, negation, both, either, choose, call, builtin, step_local, Exprs, no_exprs, expr_and, Stmt, block, run, if_else, while_do, do_while, for_do, break, continue, return_nothing, return, Stmts, no_stmts, stmt_and, Function, Program}
-use Rattle.mm_core.specs.Heads.{is_main, type_at, argument_types}
+use Rattle.mm_core.specs.Tree.{Expr, int, unsigned, bool, null, local, set_local, field, set_field, not_null, move, convert, binary, negation, both, either, choose, call, builtin, new, step_local, step_field, compound, Exprs, no_exprs, expr_and, Stmt, block, run, if_else, while_do, do_while, for_do, break, continue, return_nothing, return, make, Stmts, no_stmts, stmt_and, Function, Program}
+use Rattle.mm_classes.specs.Questions.{node}
+use Rattle.mm_core.specs.Heads.{is_main, type_at, class_shown, argument_types}
 use Rattle.mm_core.specs.ValidProgram.{around}
 use Rattle.mm_core.specs.Run.{number_of_main}
 use Rattle.mm_core.specs.Valid.{Around, type_of, type_answered, is_pointer}
 use Rattle.mm_c.specs.declared.tree.CKind.{CKind}
 use Rattle.mm_c.specs.declared.tree.CKind.TheVariants as kind
 use Rattle.mm_c.specs.declared.tree.CAtom.{CAtom}
-use Rattle.mm_c.specs.declared.tree.CAtom.TheVariants.{Name, Number, Negative, Least}
-use Rattle.mm_c.specs.declared.tree.COperator.{COperator}
+use Rattle.mm_c.specs.declared.tree.CAtom.TheVariants.{Name}
 use Rattle.mm_c.specs.declared.tree.COperator.TheVariants as o
-use Rattle.mm_c.specs.declared.tree.CExpr.{CExpr}
-use Rattle.mm_c.specs.declared.tree.CExpr.TheVariants.{Atom, Binary, ToInt, ToUnsigned, Call}
-use Rattle.mm_c.specs.declared.tree.CCall.{CCall}
+use Rattle.mm_c.specs.declared.tree.CExpr.TheVariants.{Atom, Binary}
 use Rattle.mm_c.specs.declared.tree.CCall.TheVariants.{Named}
 use Rattle.mm_c.specs.declared.tree.CLocal.{CLocal}
 use Rattle.mm_c.specs.declared.tree.CLinkage.TheVariants.{Public, Static}
@@ -32,233 +22,25 @@ use Rattle.mm_c.specs.Tree as c
 use Rattle.mm_c.specs.Tree.{Code, done, do_then, ◌⨾◌, just}
 use Rattle.mm_agree.specs.Agree.{Layout, kind_of}
 use Rattle.mm_simulate.specs.Names.{temporary, named, function_named}
-use Rattle.mm_simulate.specs.Names as name
-
--- ---- atoms
-
-abbrev pub plain : ℕ → CAtom
-plain n = Number (record { value = n; is_unsigned = false })
-
-abbrev pub word : ℕ → CAtom
-word n = Number (record { value = n; is_unsigned = true })
-
-abbrev pub greatest : ℕ
-greatest = 2147483647
-
-abbrev pub int_atom : ℤ → CAtom
-int_atom (pos n) = plain n
-int_atom (negsuc n) = if nat_eq n greatest then Least else Negative
-    (record { value = suc n; is_unsigned = false })
-
-abbrev pub bit : Bool → ℕ
-bit true = 1
-bit false = 0
-
--- an `int` temporary, an `unsigned` one, a pointer, and a local
-abbrev pub i_ : ℕ → List ℕ
-i_ t = named (temporary kind.Int t)
-
-abbrev pub u_ : ℕ → List ℕ
-u_ t = named (temporary kind.Unsigned t)
-
-abbrev pub p_ : ℕ → List ℕ
-p_ t = named (temporary kind.Pointer t)
-
-abbrev pub v_ : ℕ → List ℕ
-v_ x = named (name.local x)
-
--- the temporary of a type
-abbrev pub of_ : Ty → ℕ → List ℕ
-of_ type t = named (temporary (kind_of type) t)
-
--- ---- statements
-
-abbrev pub block_of : Code → c.Block
-block_of code = c.block [] code
-
-abbrev pub set : List ℕ → CExpr → Code
-set x r = just (c.assign x r)
-
-abbrev pub only_if : List ℕ → Code → Code
-only_if x a = just (c.if_only (Name x) (block_of a))
-
-abbrev pub if_or : List ℕ → Code → Code → Code
-if_or x a b = just (c.if_else (Name x) (block_of a) (block_of b))
-
-abbrev pub trap_code : ℕ → Code
-trap_code k = just (c.run (Named (codes "mm_trap") (plain k ∷ [])))
-
--- ---- operators on the names x and y, where w is free, and the result goes to z
-
--- trap 1 where w isn't 0
-abbrev pub overflow_if : List ℕ → Code
-overflow_if w = only_if w (trap_code 1)
-
--- w = a op b; w = c op d
-abbrev pub test_by : List ℕ → CAtom → COperator → CAtom → CAtom → CAtom → Code
-test_by w a op b d e = set w (Binary a op b) ⨾ set w (Binary d o.Less e)
-
--- x + y is no `int` where y < 0 and x < least - y, or where greatest - y < x
-abbrev pub sum_test : List ℕ → List ℕ → List ℕ → Code
-sum_test x y w =
-    set w (Binary (Name y) o.Less (plain 0)) ⨾
-    if_or w (test_by w Least o.Subtract (Name y) (Name x) (Name w))
-    (test_by w (plain greatest) o.Subtract (Name y) (Name w) (Name x))
-
--- x - y is no `int` where y < 0 and greatest + y < x, or where x < least + y
-abbrev pub difference_test : List ℕ → List ℕ → List ℕ → Code
-difference_test x y w =
-    set w (Binary (Name y) o.Less (plain 0)) ⨾
-    if_or w (test_by w (plain greatest) o.Add (Name y) (Name w) (Name x))
-    (test_by w Least o.Add (Name y) (Name x) (Name w))
-
--- x * y is no `int`: where 0 < y, x is past the quotient of a bound by y; where y < -1 likewise,
--- with the bounds exchanged; where y is -1, x is the least one. No test divides twice.
-abbrev pub bound_test : List ℕ → List ℕ → List ℕ → CAtom → CAtom → Code
-bound_test x y w above below =
-    set w (Binary (plain 0) o.Less (Name x)) ⨾
-    if_or w (test_by w above o.Divide (Name y) (Name w) (Name x))
-    (test_by w below o.Divide (Name y) (Name x) (Name w))
-
-abbrev pub minus_one : CAtom
-minus_one = Negative (record { value = 1; is_unsigned = false })
-
--- x / y is no `int` where x is the least one and y is -1
-abbrev pub minus_test : List ℕ → List ℕ → List ℕ → Code
-minus_test x y w = set w (Binary (Name y) o.Equal minus_one) ⨾
-    only_if w (set w (Binary (Name x) o.Equal Least))
-
-abbrev pub low_test : List ℕ → List ℕ → List ℕ → Code
-low_test x y w =
-    set w (Binary (Name y) o.Less minus_one) ⨾
-    if_or w (bound_test x y w Least (plain greatest)) (minus_test x y w)
-
-abbrev pub product_test : List ℕ → List ℕ → List ℕ → Code
-product_test x y w =
-    set w (Binary (plain 0) o.Less (Name y)) ⨾
-    if_or w (bound_test x y w (plain greatest) Least) (low_test x y w)
-
--- trap 2 at 0
-abbrev pub zero_trap : List ℕ → CAtom → List ℕ → Code
-zero_trap y nil w = set w (Binary (Name y) o.Equal nil) ⨾ only_if w (trap_code 2)
-
-abbrev pub op_in_c : Operator → COperator
-op_in_c by.Add = o.Add
-op_in_c by.Subtract = o.Subtract
-op_in_c by.Multiply = o.Multiply
-op_in_c by.Divide = o.Divide
-op_in_c by.Remainder = o.Remainder
-op_in_c by.Less = o.Less
-op_in_c by.Greater = o.Greater
-op_in_c by.LessEqual = o.LessEqual
-op_in_c by.GreaterEqual = o.GreaterEqual
-op_in_c by.Equal = o.Equal
-op_in_c by.NotEqual = o.NotEqual
-
--- the operator, behind a test that left w
-abbrev pub unless_over : COperator → List ℕ → List ℕ → List ℕ → List ℕ → Code
-unless_over op x y w z = overflow_if w ⨾ set z (Binary (Name x) op (Name y))
-
-abbrev pub on_int : Operator → List ℕ → List ℕ → List ℕ → List ℕ → Code
-on_int by.Add x y w z = sum_test x y w ⨾ unless_over o.Add x y w z
-on_int by.Subtract x y w z = difference_test x y w ⨾ unless_over o.Subtract x y w z
-on_int by.Multiply x y w z = product_test x y w ⨾ unless_over o.Multiply x y w z
-on_int by.Divide x y w z = zero_trap y (plain 0) w ⨾
-    (minus_test x y w ⨾ unless_over o.Divide x y w z)
-on_int by.Remainder x y w z = zero_trap y (plain 0) w ⨾
-    (minus_test x y w ⨾ unless_over o.Remainder x y w z)
-on_int op x y w z = set z (Binary (Name x) (op_in_c op) (Name y))
-
-abbrev pub on_word : Operator → List ℕ → List ℕ → List ℕ → List ℕ → Code
-on_word by.Divide x y w z = zero_trap y (word 0) w ⨾ set z (Binary (Name x) o.Divide (Name y))
-on_word by.Remainder x y w z = zero_trap y (word 0) w ⨾ set z (Binary (Name x) o.Remainder (Name y))
-on_word op x y w z = set z (Binary (Name x) (op_in_c op) (Name y))
-
--- on operands of a type in t and the next temporary, with a result of a type
-abbrev pub operator : ℕ → Operator → Ty → Ty → Code
-operator t op ty.Unsigned result = on_word op (u_ t) (u_ (suc t)) (i_ (suc t)) (of_ result t)
-operator t op (ty.Ptr d) result = set (of_ result t)
-    (Binary (Name (p_ t)) (op_in_c op) (Name (p_ (suc t))))
-operator t op (ty.Ref d) result = set (of_ result t)
-    (Binary (Name (p_ t)) (op_in_c op) (Name (p_ (suc t))))
-operator t op other result = on_int op (i_ t) (i_ (suc t)) (i_ (suc (suc t))) (of_ result t)
-
--- ---- other nodes
-
--- the zero of a type, or null
-abbrev pub zero_atom : Ty → CAtom
-zero_atom ty.Unsigned = word 0
-zero_atom other = plain 0
-
--- what stands in t, of a type, as another
-abbrev pub conversion : ℕ → Target → Ty → Code
-conversion t to.Bool type = set (i_ t) (Binary (Name (of_ type t)) o.NotEqual (zero_atom type))
-conversion t to.Int ty.Unsigned = set (i_ t) (ToInt (u_ t))
-conversion t to.Int other = done
-conversion t to.Unsigned type = set (u_ t) (ToUnsigned (i_ t))
-
--- the old value of a local goes to t, and the local steps
-abbrev pub step_end : Change → CAtom
-step_end Up = plain greatest
-step_end Down = Least
-
-abbrev pub change_in_c : Change → COperator
-change_in_c Up = o.Add
-change_in_c Down = o.Subtract
-
-abbrev pub step_code : ℕ → ℕ → Change → Ty → Code
-step_code t x change ty.Unsigned = set (u_ t) (Atom (Name (v_ x))) ⨾
-    set (v_ x) (Binary (Name (v_ x)) (change_in_c change) (word 1))
-step_code t x change other =
-    set (i_ t) (Atom (Name (v_ x))) ⨾
-    set (i_ (suc t)) (Binary (Name (v_ x)) o.Equal (step_end change)) ⨾
-    overflow_if (i_ (suc t)) ⨾
-    set (v_ x) (Binary (Name (v_ x)) (change_in_c change) (plain 1))
-
--- the same, where the old value is not used
-abbrev pub step_only : ℕ → ℕ → Change → Ty → Code
-step_only t x change ty.Unsigned = set (v_ x) (Binary (Name (v_ x)) (change_in_c change) (word 1))
-step_only t x change other =
-    set (i_ t) (Binary (Name (v_ x)) o.Equal (step_end change)) ⨾
-    overflow_if (i_ t) ⨾
-    set (v_ x) (Binary (Name (v_ x)) (change_in_c change) (plain 1))
-
--- a call, whose result goes to t where there is one
-abbrev pub called_for : ℕ → Ty → CCall → Code
-called_for t ty.Void r = just (c.run r)
-called_for t type r = set (of_ type t) (Call r)
-
-abbrev pub builtin_name : Builtin → List ℕ
-builtin_name Put = codes "mm_put"
-builtin_name Get = codes "mm_get"
-builtin_name More = codes "mm_more"
-
-abbrev pub break_unless : List ℕ → Code
-break_unless x = if_or x done (just c.break)
-
--- ---- loops
-
--- A loop in whose turns something stands before the body, but in the first one: t tells whether it
--- is due.
-abbrev pub flagged : ℕ → Code → Code → Code
-flagged t before body = set (i_ t) (Atom (plain 0)) ⨾
-    just (c.forever (block_of (only_if (i_ t) before ⨾ (set (i_ t) (Atom (plain 1)) ⨾ body))))
-
--- The step of a `for`. One that may end the turn leaves none due for the next.
-abbrev pub step_in : ℕ → Stmt → Code → Code
-step_in t (run e) code = code
-step_in t other code = set (i_ t) (Atom (plain 0)) ⨾ code
-
--- A `for` from its step, and its test and body for a loop with a step and for one without.
-abbrev pub looped : ℕ → Stmt → Code → Code → Code → Code
-looped t (block no_stmts) step later plain = just (c.forever (block_of plain))
-looped t s step later plain = flagged t (step_in t s step) later
+use Rattle.mm_simulate.specs.LoweredObjects.{null_trap, load_code, put_code, step_field_code, compound_code, move_code, new_code}
+pub use Rattle.mm_simulate.specs.Codes.{plain, word, greatest, int_atom, bit, i_, u_, p_, v_, of_}
+pub use Rattle.mm_simulate.specs.Codes.{block_of, set, only_if, if_or, trap_code, overflow_if}
+pub use Rattle.mm_simulate.specs.Codes.{test_by, sum_test, difference_test, bound_test, minus_one}
+pub use Rattle.mm_simulate.specs.Codes.{minus_test, low_test, product_test, zero_trap, op_in_c}
+pub use Rattle.mm_simulate.specs.Codes.{unless_over, on_int, on_word, operator, zero_atom}
+pub use Rattle.mm_simulate.specs.Codes.{conversion, step_end, change_in_c, step_code, step_only}
+pub use Rattle.mm_simulate.specs.Codes.{called_for, builtin_name, break_unless, flagged, step_in}
+pub use Rattle.mm_simulate.specs.Codes.{looped}
 
 module _ (a : Around) (l : Layout) (named_of : ℕ → List ℕ) where
   -- the temporaries from t on, one for each expression
   abbrev pub atoms_from : ℕ → Exprs → List CAtom
   atoms_from t no_exprs = []
   atoms_from t (expr_and e es) = Name (of_ (type_of a e) t) ∷ atoms_from (suc t) es
+
+  -- where a field stands in the subobject that a pointer shows
+  abbrev field_place : ℕ → Expr → ℕ
+  field_place f e = l.member (class_shown (type_of a e)) f
 
   abbrev mutual
     -- the value goes to t
@@ -280,6 +62,19 @@ module _ (a : Around) (l : Layout) (named_of : ℕ → List ℕ) where
     lowered t (builtin b es) = lowered_all t es ⨾
         called_for t (type_answered b) (Named (builtin_name b) (atoms_from t es))
     lowered t (step_local x change) = step_code t x change (type_at a.locals x)
+    lowered t (null d) = set (p_ t) (Atom (plain 0))
+    lowered t (field f e) = lowered t e ⨾ load_code t (type_of a (field f e)) (field_place f e)
+    lowered t (set_field f e d) = lowered t e ⨾
+        (lowered (suc t) d ⨾ put_code t (type_of a (field f e)) (field_place f e))
+    lowered t (not_null e) = lowered t e ⨾ null_trap t
+    lowered t (move d n e) = lowered t e ⨾ move_code l t (type_of a e) d (node a.classes d n)
+    lowered t (new d) = new_code a.classes l (p_ t) d
+    lowered t (step_field f change e) = lowered t e ⨾
+        step_field_code t change (type_of a (field f e)) (field_place f e)
+    lowered t (compound op f e d) = lowered t e ⨾
+        (load_code t (type_of a (field f e)) (field_place f e) ⨾
+        (lowered (suc t) d ⨾
+        compound_code t op (type_of a (field f e)) (type_of a d) (field_place f e)))
     lowered t other = done
 
     -- the values go to t and the temporaries after it
@@ -315,7 +110,8 @@ module _ (a : Around) (l : Layout) (named_of : ℕ → List ℕ) where
     lowered_stmt t continue = just c.continue
     lowered_stmt t return_nothing = just c.leave
     lowered_stmt t (return e) = lowered t e ⨾ just (c.return (Name (of_ (type_of a e) t)))
-    lowered_stmt t other = done
+    lowered_stmt t (make x) =
+        new_code a.classes l (v_ x) (class_shown (type_at a.locals x))
 
     pub lowered_stmts : ℕ → Stmts → Code
     lowered_stmts t no_stmts = done
@@ -335,6 +131,12 @@ abbrev mutual
   reach (call f es) = max 1 (reach_all es)
   reach (builtin b es) = max 1 (reach_all es)
   reach (step_local x change) = 2
+  reach (field f e) = reach e
+  reach (set_field f e d) = max (reach e) (suc (reach d))
+  reach (not_null e) = reach e
+  reach (move d n e) = reach e
+  reach (step_field f change e) = max (reach e) 2
+  reach (compound op f e d) = max (reach e) (max (suc (reach d)) 3)
   reach other = 1
 
   pub reach_all : Exprs → ℕ
@@ -369,6 +171,12 @@ abbrev mutual
   nesting (choose e d f) = max (nesting e) (suc (max (nesting d) (nesting f)))
   nesting (call f es) = nesting_all es
   nesting (builtin b es) = nesting_all es
+  nesting (field f e) = nesting e
+  nesting (set_field f e d) = max (nesting e) (nesting d)
+  nesting (not_null e) = nesting e
+  nesting (move d n e) = nesting e
+  nesting (step_field f change e) = nesting e
+  nesting (compound op f e d) = max (nesting e) (nesting d)
   nesting other = 0
 
   pub nesting_all : Exprs → ℕ

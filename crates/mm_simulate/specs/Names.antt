@@ -39,3 +39,8 @@ named (temporary k t) = letter k ∷ numeral t
 abbrev pub function_named : Bool → ℕ → List ℕ → List ℕ
 function_named true n name = codes "main"
 function_named false n name = 102 ∷ (numeral n ++ 95 ∷ filter is_word_byte name)
+
+-- The array that tells by the tag of a subobject of class c how many bytes on its virtual base v
+-- stands: `mm_m_4_2`.
+abbrev pub difference_named : ℕ → ℕ → List ℕ
+difference_named c v = codes "mm_m_" ++ (numeral c ++ 95 ∷ numeral v)
