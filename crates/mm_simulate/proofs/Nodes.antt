@@ -17,7 +17,7 @@ use Rattle.mm_core.specs.declared.part.Target.{Target}
 use Rattle.mm_core.specs.declared.part.Target.TheVariants as to
 use Rattle.mm_core.specs.declared.part.Change.{Change}
 use Rattle.mm_core.specs.declared.part.Change.TheVariants.{Up, Down}
-use Rattle.mm_core.specs.Tree.{Expr, int, unsigned, bool, local, set_local, convert, binary, negation, both, either, choose, call, builtin, step_local, Exprs, no_exprs, expr_and}
+use Rattle.mm_core.specs.Tree.{Expr, int, unsigned, bool, local, set_local, set_field, convert, binary, negation, both, either, choose, call, builtin, step_local, Exprs, no_exprs, expr_and}
 use Rattle.mm_core.specs.Heads.{type_at, is_reference, argument_types, class_in, same_type}
 use Rattle.mm_core.specs.State as source
 use Rattle.mm_core.specs.State.{Value, Truth, Number, Word, Null, At, Nothing, Object, State, Store, with_local, or_trap, outside, at_once, object_at, class_of}
@@ -194,15 +194,15 @@ module _ (m : Frame) (calls : Calls) (around : c.Around) (has : HasPrelude aroun
     pub kept : Keeps m t old u
     pub stores : Stores m s u
 
-  abbrev pub Claim : Expr → Type 0
-  Claim e = (t : ℕ) (s : Store) (u : c.Store) (k : ℕ) → IsLowered (a m) e → IsValid (a m) known e → IsFine s → Stores m s u → AgreeOn (Holds m t u.names (type_of (a m) e)) (value_of w e s k) (flows_of around (code t e) u k)
+  abbrev pub Claim : ℕ → Expr → Type 0
+  Claim t e = (s : Store) (u : c.Store) (k : ℕ) → IsValid (a m) known e → IsFine s → Stores m s u → AgreeOn (Holds m t u.names (type_of (a m) e)) (value_of w e s k) (flows_of around (code t e) u k)
 
-  abbrev pub ClaimAll : Exprs → Type 0
-  ClaimAll es = (t : ℕ) (s : Store) (u : c.Store) (k : ℕ) → AreLowered (a m) es → AreValid (a m) known es → IsFine s → Stores m s u → AgreeOn (AllHold t u.names es) (values_of w es s k) (flows_of around (code_all t es) u k)
+  abbrev pub ClaimAll : ℕ → Exprs → Type 0
+  ClaimAll t es = (s : Store) (u : c.Store) (k : ℕ) → AreValid (a m) known es → IsFine s → Stores m s u → AgreeOn (AllHold t u.names es) (values_of w es s k) (flows_of around (code_all t es) u k)
 
   -- with what the source alone tells: the value fits
-  pub full : (e : Expr) → Claim e → (t : ℕ) (s : Store) (u : c.Store) (k : ℕ) → IsLowered (a m) e → IsValid (a m) known e → IsFine s → Stores m s u → AgreeOn (λ v s' u'. Holds m t u.names (type_of (a m) e) v s' u' × Fitted (type_of (a m) e) s v s') (value_of w e s k) (flows_of around (code t e) u k)
-  full e ih t s u k low valid fine h = agree_weaken (agree_on (Fitted (type_of (a m) e) s) (ih t s u k low valid fine h) (value_fits (core m calls) known ok e s k valid fine)) (λ v s' flow u' q. (q.0.0, (q.0.1, q.1)))
+  pub full : (e : Expr) (t : ℕ) → Claim t e → (s : Store) (u : c.Store) (k : ℕ) → IsValid (a m) known e → IsFine s → Stores m s u → AgreeOn (λ v s' u'. Holds m t u.names (type_of (a m) e) v s' u' × Fitted (type_of (a m) e) s v s') (value_of w e s k) (flows_of around (code t e) u k)
+  full e t ih s u k valid fine h = agree_weaken (agree_on (Fitted (type_of (a m) e) s) (ih s u k valid fine h) (value_fits (core m calls) known ok e s k valid fine)) (λ v s' flow u' q. (q.0.0, (q.0.1, q.1)))
 
   -- ---- pieces
 
@@ -216,31 +216,31 @@ module _ (m : Frame) (calls : Calls) (around : c.Around) (has : HasPrelude aroun
   holds_from : (t : ℕ) (old old' : c.Names) (type type' : Ty) (v : Value) (s : Store) (u : c.Store) → ((j : _) (x : ℕ) → x < t → old' (named (temporary j x)) ≡ old (named (temporary j x))) → Same type type' → Holds m t old' type v s u → Holds m t old type' v s u
   holds_from t old old' type type' v s u keeps e h = record { value = λ void. value_at t old' type type' v s u e void h; kept = λ j x low. h.kept j x low ∙ keeps j x low; stores = h.stores }
 
-  value_from : (e : Expr) → Claim e → (t : ℕ) (old : c.Names) (type : Ty) (s : Store) (u : c.Store) (k : ℕ) → Same (type_of (a m) e) type → IsLowered (a m) e → IsValid (a m) known e → IsFine s → Keeps m t old u → Stores m s u → AgreeOn (Holds m t old type) (value_of w e s k) (flows_of around (code t e) u k)
-  value_from e ih t old type s u k is low valid fine keeps h = agree_weaken (ih t s u k low valid fine h) (λ v s' flow u' q. (q.0, holds_from t old u.names (type_of (a m) e) type v s' u' keeps is q.1))
+  pub value_from : (e : Expr) (t : ℕ) → Claim t e → (old : c.Names) (type : Ty) (s : Store) (u : c.Store) (k : ℕ) → Same (type_of (a m) e) type → IsValid (a m) known e → IsFine s → Keeps m t old u → Stores m s u → AgreeOn (Holds m t old type) (value_of w e s k) (flows_of around (code t e) u k)
+  value_from e t ih old type s u k is valid fine keeps h = agree_weaken (ih s u k valid fine h) (λ v s' flow u' q. (q.0, holds_from t old u.names (type_of (a m) e) type v s' u' keeps is q.1))
 
   pub as_fits : (t u : Ty) (xs : List Object) (v : Value) → t ≡ u → Fits (g m) xs t v → Fits (g m) xs u v
   as_fits t u xs v e f = subst (λ z. Fits (g m) xs z v) e f
 
   -- ---- leaves
 
-  int_agrees : (z : ℤ) → Claim (int z)
-  int_agrees z t s u k low valid fine h = set_agrees m around t u.names ty.Int (Number z) s u k (Atom (int_atom z)) (copy_gives around u k (int_atom z) (holds.Int z) (int_atom_is z u.names)) valid (λ j x below. refl) h
+  pub int_agrees : (z : ℤ) (t : ℕ) → Claim t (int z)
+  int_agrees z t s u k valid fine h = set_agrees m around t u.names ty.Int (Number z) s u k (Atom (int_atom z)) (copy_gives around u k (int_atom z) (holds.Int z) (int_atom_is z u.names)) valid (λ j x below. refl) h
 
-  unsigned_agrees : (n : ℕ) → Claim (unsigned n)
-  unsigned_agrees n t s u k low valid fine h = set_agrees m around t u.names ty.Unsigned (Word n) s u k (Atom (word n)) refl valid (λ j x below. refl) h
+  pub unsigned_agrees : (n t : ℕ) → Claim t (unsigned n)
+  unsigned_agrees n t s u k valid fine h = set_agrees m around t u.names ty.Unsigned (Word n) s u k (Atom (word n)) refl valid (λ j x below. refl) h
 
-  bool_agrees : (b : Bool) → Claim (bool b)
-  bool_agrees b t s u k low valid fine h = set_agrees m around t u.names ty.Bool (Truth b) s u k (Atom (plain (bit b))) (copy_gives around u k (plain (bit b)) (holds.Int (bit_of b)) (bit_is b)) tt (λ j x below. refl) h
+  pub bool_agrees : (b : Bool) (t : ℕ) → Claim t (bool b)
+  bool_agrees b t s u k valid fine h = set_agrees m around t u.names ty.Bool (Truth b) s u k (Atom (plain (bit b))) (copy_gives around u k (plain (bit b)) (holds.Int (bit_of b)) (bit_is b)) tt (λ j x below. refl) h
 
-  local_agrees : (x : ℕ) → Claim (local x)
-  local_agrees x t s u k low valid fine h = set_agrees m around t u.names (type_at m.types x) (s.locals x) s u k (Atom (Name (v_ x))) (copy_gives around u k (Name (v_ x)) (c_value m s.state.objects (s.locals x)) (h.same x valid.0)) (fine.locals x valid.0 valid.1) (λ j x below. refl) h
+  pub local_agrees : (x t : ℕ) → Claim t (local x)
+  local_agrees x t s u k valid fine h = set_agrees m around t u.names (type_at m.types x) (s.locals x) s u k (Atom (Name (v_ x))) (copy_gives around u k (Name (v_ x)) (c_value m s.state.objects (s.locals x)) (h.same x valid.0)) (fine.locals x valid.0 valid.1) (λ j x below. refl) h
 
   -- ---- locals
 
-  set_local_agrees : (x : ℕ) (e : Expr) → Claim e → Claim (set_local x e)
-  set_local_agrees x e ih t s u k low valid fine h =
-      after around (code t e) _ _ _ _ _ u k (full e ih t s u k low valid.2 fine h) (λ v s1 u1 k1 p.
+  pub set_local_agrees : (x : ℕ) (e : Expr) (t : ℕ) → Claim t e → Claim t (set_local x e)
+  set_local_agrees x e t ih s u k valid fine h =
+      after around (code t e) _ _ _ _ _ u k (full e t ih s u k valid.2 fine h) (λ v s1 u1 k1 p.
       let is = suits_same (type_of (a m) e) (type_at m.types x) valid.1 in
       let fits = suits_fits (g m) s1.state.objects (type_of (a m) e) (type_at m.types x) v valid.1 p.1.fits in
       let n = c_value m s1.state.objects v in
@@ -303,9 +303,9 @@ module _ (m : Frame) (calls : Calls) (around : c.Around) (has : HasPrelude aroun
   arithmetic_solid (ty.Ptr d) x h = refl
   arithmetic_solid (ty.Ref d) x h = refl
 
-  convert_node_agrees : (x : Target) (e : Expr) → Claim e → Claim (convert x e)
-  convert_node_agrees x e ih t s u k low valid fine h =
-      after around (code t e) _ _ _ _ _ u k (full e ih t s u k low valid.1 fine h) (λ v s1 u1 k1 p.
+  pub convert_node_agrees : (x : Target) (e : Expr) (t : ℕ) → Claim t e → Claim t (convert x e)
+  convert_node_agrees x e t ih s u k valid fine h =
+      after around (code t e) _ _ _ _ _ u k (full e t ih s u k valid.1 fine h) (λ v s1 u1 k1 p.
       convert_agrees t u.names s1 u1 k1 p.0.kept p.0.stores x (type_of (a m) e) v p.1.fits valid.0 (p.0.value (arithmetic_solid (type_of (a m) e) x valid.0.1)))
 
   -- ---- operators
@@ -359,12 +359,12 @@ module _ (m : Frame) (calls : Calls) (around : c.Around) (has : HasPrelude aroun
   are_numbers op t u e (inl h) = h
   are_numbers op t u e (inr h) = absurd (let n = h.1 in let z : true ≡ false = sym n ∙ e in let q : ⊥ = cc in q)
 
-  binary_agrees : (op : Operator) (d e : Expr) → Claim d → Claim e → Claim (binary op d e)
-  binary_agrees op d e ihd ihe t s u k low valid fine h =
-      let q = are_numbers op (type_of (a m) d) (type_of (a m) e) low.0 valid.0 in
+  pub binary_agrees : (op : Operator) (d e : Expr) (t : ℕ) → is_pointer (type_of (a m) d) ≡ false → Claim t d → Claim (suc t) e → Claim t (binary op d e)
+  binary_agrees op d e t low ihd ihe s u k valid fine h =
+      let q = are_numbers op (type_of (a m) d) (type_of (a m) e) low valid.0 in
       let void = number_solid (type_of (a m) d) q.0 in
-      after around (code t d) _ _ _ _ _ u k (full d ihd t s u k low.1 valid.1 fine h) (λ v1 s1 u1 k1 p1.
-      after around (code (suc t) e) _ _ _ _ _ u1 k1 (full e ihe (suc t) s1 u1 k1 low.2 valid.2 p1.1.fine p1.0.stores) (λ v2 s2 u2 k2 p2.
+      after around (code t d) _ _ _ _ _ u k (full d t ihd s u k valid.1 fine h) (λ v1 s1 u1 k1 p1.
+      after around (code (suc t) e) _ _ _ _ _ u1 k1 (full e (suc t) ihe s1 u1 k1 valid.2 p1.1.fine p1.0.stores) (λ v2 s2 u2 k2 p2.
       let below : t < suc t = omega arith in
       operands_agree op t u.names (type_of (a m) d) v1 v2 s1 s2 u1 u2 k2 q.0 p1.1.fits (as_fits (type_of (a m) e) (type_of (a m) d) s2.state.objects v2 (sym q.1) p2.1.fits) (p1.0.value void) (p2.0.kept (kind_of (type_of (a m) d)) t below) (value_at (suc t) u1.names (type_of (a m) e) (type_of (a m) d) v2 s2 u2 (is_same _ _ (sym q.1)) void p2.0)
       (λ j x low'. let less : x < suc t = omega arith in p2.0.kept j x less ∙ p1.0.kept j x low') p2.0.stores))
@@ -394,51 +394,51 @@ module _ (m : Frame) (calls : Calls) (around : c.Around) (has : HasPrelude aroun
   not_bit true = refl
   not_bit false = refl
 
-  negation_agrees : (e : Expr) → Claim e → Claim (negation e)
-  negation_agrees e ih t s u k low valid fine h =
-      after around (code t e) _ _ _ _ _ u k (full e ih t s u k low valid.1 fine h) (λ v s1 u1 k1 p.
+  pub negation_agrees : (e : Expr) (t : ℕ) → Claim t e → Claim t (negation e)
+  negation_agrees e t ih s u k valid fine h =
+      after around (code t e) _ _ _ _ _ u k (full e t ih s u k valid.1 fine h) (λ v s1 u1 k1 p.
       right_agrees t u.names s1 u1 k1 p.0.kept p.0.stores ty.Bool (Truth (not (is_true v))) (Binary (Name (i_ t)) o.Equal (plain 0)) (holds.Int (bit_of (int_le (bit_of (is_true v)) (pos 0) && int_le (pos 0) (bit_of (is_true v))))) (ap (λ b. holds.Int (bit_of b)) (not_bit (is_true v))) (int_op around t k1 u1 (Name (i_ t)) (plain 0) o.Equal (bit_of (is_true v)) (pos 0) _ (bit_in t u.names e v s1 u1 valid.0 p.0 p.1.fits) refl refl) tt)
 
   -- the value that stands in t already
   truth_stands : (t : ℕ) (old : c.Names) (e : Expr) (v : Value) (b : Bool) (s : Store) (u : c.Store) (k : ℕ) → type_of (a m) e ≡ ty.Bool → is_true v ≡ b → Holds m t old (type_of (a m) e) v s u → Fits (g m) s.state.objects (type_of (a m) e) v → AgreeOn (Holds m t old ty.Bool) (Gives (Truth b) s k) (flows_of around done u k)
   truth_stands t old e v b s u k is eq p fits = both_give (refl, record { value = λ void. bit_in t old e v s u is p fits ∙ ap (λ z. holds.Int (bit_of z)) eq; kept = p.kept; stores = p.stores })
 
-  both_agrees : (d e : Expr) → Claim d → Claim e → Claim (both d e)
-  both_agrees d e ihd ihe t s u k low valid fine h =
-      after around (code t d) _ _ _ _ _ u k (full d ihd t s u k low.0 valid.2 fine h) (λ v s1 u1 k1 p.
+  pub both_agrees : (d e : Expr) (t : ℕ) → Claim t d → Claim t e → Claim t (both d e)
+  both_agrees d e t ihd ihe s u k valid fine h =
+      after around (code t d) _ _ _ _ _ u k (full d t ihd s u k valid.2 fine h) (λ v s1 u1 k1 p.
       only_last around _ _ u1 k1 (i_ t) (is_true v) (code t e) (bit_in t u.names d v s1 u1 valid.0 p.0 p.1.fits)
       (decided _ s1 u1 k1 (is_true v) (value_of w e) _ (code t e) done
-      (λ b. value_from e ihe t u.names ty.Bool s1 u1 k1 (is_same _ _ valid.1) low.1 valid.3 p.1.fine p.0.kept p.0.stores)
+      (λ b. value_from e t ihe u.names ty.Bool s1 u1 k1 (is_same _ _ valid.1) valid.3 p.1.fine p.0.kept p.0.stores)
       (λ b. truth_stands t u.names d v false s1 u1 k1 valid.0 b p.0 p.1.fits)))
 
-  either_agrees : (d e : Expr) → Claim d → Claim e → Claim (either d e)
-  either_agrees d e ihd ihe t s u k low valid fine h =
-      after around (code t d) _ _ _ _ _ u k (full d ihd t s u k low.0 valid.2 fine h) (λ v s1 u1 k1 p.
+  pub either_agrees : (d e : Expr) (t : ℕ) → Claim t d → Claim t e → Claim t (either d e)
+  either_agrees d e t ihd ihe s u k valid fine h =
+      after around (code t d) _ _ _ _ _ u k (full d t ihd s u k valid.2 fine h) (λ v s1 u1 k1 p.
       if_last around _ _ u1 k1 (i_ t) (is_true v) done (code t e) (bit_in t u.names d v s1 u1 valid.0 p.0 p.1.fits)
       (decided _ s1 u1 k1 (is_true v) _ (value_of w e) done (code t e)
       (λ b. truth_stands t u.names d v true s1 u1 k1 valid.0 b p.0 p.1.fits)
-      (λ b. value_from e ihe t u.names ty.Bool s1 u1 k1 (is_same _ _ valid.1) low.1 valid.3 p.1.fine p.0.kept p.0.stores)))
+      (λ b. value_from e t ihe u.names ty.Bool s1 u1 k1 (is_same _ _ valid.1) valid.3 p.1.fine p.0.kept p.0.stores)))
 
-  choose_agrees : (e d f : Expr) → Claim e → Claim d → Claim f → Claim (choose e d f)
-  choose_agrees e d f ihe ihd ihf t s u k low valid fine h =
+  pub choose_agrees : (e d f : Expr) (t : ℕ) → Claim t e → Claim t d → Claim t f → Claim t (choose e d f)
+  choose_agrees e d f t ihe ihd ihf s u k valid fine h =
       let T = type_of (a m) (choose e d f) in
       let is : Same (type_of (a m) d) T = same_if (same_type (type_of (a m) d) (type_of (a m) f)) (type_of (a m) d) in
-      after around (code t e) _ _ _ _ _ u k (full e ihe t s u k low.0 valid.2 fine h) (λ v s1 u1 k1 p.
+      after around (code t e) _ _ _ _ _ u k (full e t ihe s u k valid.2 fine h) (λ v s1 u1 k1 p.
       if_last around _ _ u1 k1 (i_ t) (is_true v) (code t d) (code t f) (bit_in t u.names e v s1 u1 valid.0 p.0 p.1.fits)
       (decided _ s1 u1 k1 (is_true v) (value_of w d) (value_of w f) (code t d) (code t f)
-      (λ b. value_from d ihd t u.names T s1 u1 k1 is low.1 valid.3 p.1.fine p.0.kept p.0.stores)
-      (λ b. value_from f ihf t u.names T s1 u1 k1 (same_on _ _ _ (second_branch (type_of (a m) d) (type_of (a m) f) valid.1) is) low.2 valid.4 p.1.fine p.0.kept p.0.stores)))
+      (λ b. value_from d t ihd u.names T s1 u1 k1 is valid.3 p.1.fine p.0.kept p.0.stores)
+      (λ b. value_from f t ihf u.names T s1 u1 k1 (same_on _ _ _ (second_branch (type_of (a m) d) (type_of (a m) f) valid.1) is) valid.4 p.1.fine p.0.kept p.0.stores)))
 
   -- ---- arguments
 
-  pub full_all : (es : Exprs) → ClaimAll es → (t : ℕ) (s : Store) (u : c.Store) (k : ℕ) → AreLowered (a m) es → AreValid (a m) known es → IsFine s → Stores m s u → AgreeOn (λ vs s' u'. AllHold t u.names es vs s' u' × AllFitted (types_of (a m) es) s vs s') (values_of w es s k) (flows_of around (code_all t es) u k)
-  full_all es ih t s u k low valid fine h = agree_weaken (agree_on (AllFitted (types_of (a m) es) s) (ih t s u k low valid fine h) (values_fit (core m calls) known ok es s k valid fine)) (λ v s' flow u' q. (q.0.0, (q.0.1, q.1)))
+  pub full_all : (es : Exprs) (t : ℕ) → ClaimAll t es → (s : Store) (u : c.Store) (k : ℕ) → AreValid (a m) known es → IsFine s → Stores m s u → AgreeOn (λ vs s' u'. AllHold t u.names es vs s' u' × AllFitted (types_of (a m) es) s vs s') (values_of w es s k) (flows_of around (code_all t es) u k)
+  full_all es t ih s u k valid fine h = agree_weaken (agree_on (AllFitted (types_of (a m) es) s) (ih s u k valid fine h) (values_fit (core m calls) known ok es s k valid fine)) (λ v s' flow u' q. (q.0.0, (q.0.1, q.1)))
 
-  pub and_agrees : (e : Expr) (es : Exprs) → Claim e → ClaimAll es → ClaimAll (expr_and e es)
-  and_agrees e es ih ihs t s u k low valid fine h =
+  pub and_agrees : (e : Expr) (es : Exprs) (t : ℕ) → Claim t e → ClaimAll (suc t) es → ClaimAll t (expr_and e es)
+  and_agrees e es t ih ihs s u k valid fine h =
       let below : t < suc t = omega arith in
-      after around (code t e) _ _ _ _ _ u k (full e ih t s u k low.0 valid.0 fine h) (λ v s1 u1 k1 p.
-      agree_map (λ vs. v ∷ vs) (full_all es ihs (suc t) s1 u1 k1 low.1 valid.1 p.1.fine p.0.stores) (λ vs s2 flow u2 q. (
+      after around (code t e) _ _ _ _ _ u k (full e t ih s u k valid.0 fine h) (λ v s1 u1 k1 p.
+      agree_map (λ vs. v ∷ vs) (full_all es (suc t) ihs s1 u1 k1 valid.1 p.1.fine p.0.stores) (λ vs s2 flow u2 q. (
         q.0,
         record {
           values = λ solid'. ap₂ (λ n ns. n ∷ ns) (q.1.0.kept (kind_of (type_of (a m) e)) t below ∙ p.0.value solid'.0 ∙ still m s1.state.objects s2.state.objects (type_of (a m) e) v q.1.1.grew p.1.fits) (q.1.0.values solid'.1);
@@ -446,6 +446,9 @@ module _ (m : Frame) (calls : Calls) (around : c.Around) (has : HasPrelude aroun
           stores = q.1.0.stores;
         },
       )))
+
+  pub none_agree : (t : ℕ) → ClaimAll t no_exprs
+  none_agree t s u k valid fine h = both_give (refl, record { values = λ solid'. refl; kept = λ j x below. refl; stores = h })
 
   -- ---- calls
 
@@ -483,9 +486,9 @@ module _ (m : Frame) (calls : Calls) (around : c.Around) (has : HasPrelude aroun
     called_agrees (ty.Ptr d) f atoms vs k x e alike gave = rw e (put_result (ty.Ptr d) (λ n. refl) _ _ (agree_on (Gave (g m) (ty.Ptr d) s.state) alike gave))
     called_agrees (ty.Ref d) f atoms vs k x e alike gave = rw e (put_result (ty.Ref d) (λ n. refl) _ _ (agree_on (Gave (g m) (ty.Ref d) s.state) alike gave))
 
-  call_agrees : (f : ℕ) (es : Exprs) → ClaimAll es → Claim (call f es)
-  call_agrees f es ih t s u k low valid fine h =
-      after around (code_all t es) _ _ _ _ _ u k (full_all es ih t s u k low valid.1 fine h) (λ vs s1 u1 k1 p.
+  pub call_agrees : (f : ℕ) (es : Exprs) (t : ℕ) → ClaimAll t es → Claim t (call f es)
+  call_agrees f es t ih s u k valid fine h =
+      after around (code_all t es) _ _ _ _ _ u k (full_all es t ih s u k valid.1 fine h) (λ vs s1 u1 k1 p.
       let c' = valid.0 in
       let is : type_of (a m) (call f es) ≡ c'.0.result = ap result_of_function c'.1 in
       let fits = all_suit (core m calls) known ok s1.state.objects (types_of (a m) es) (argument_types (g m) c'.0) vs c'.4 p.1.fits in
@@ -520,9 +523,9 @@ module _ (m : Frame) (calls : Calls) (around : c.Around) (has : HasPrelude aroun
   asks Get vs = has.get vs
   asks More vs = has.more vs
 
-  builtin_agrees : (b : Builtin) (es : Exprs) → ClaimAll es → Claim (builtin b es)
-  builtin_agrees b es ih t s u k low valid fine h =
-      after around (code_all t es) _ _ _ _ _ u k (full_all es ih t s u k low valid.1 fine h) (λ vs s1 u1 k1 p.
+  pub builtin_agrees : (b : Builtin) (es : Exprs) (t : ℕ) → ClaimAll t es → Claim t (builtin b es)
+  builtin_agrees b es t ih s u k valid fine h =
+      after around (code_all t es) _ _ _ _ _ u k (full_all es t ih s u k valid.1 fine h) (λ vs s1 u1 k1 p.
       let fits = all_suit (core m calls) known ok s1.state.objects (types_of (a m) es) (types_asked b) vs valid.0 p.1.fits in
       called_agrees t u.names s1 u1 p.0.kept p.0.stores (type_answered b) (builtin_name b) (atoms_from (a m) m.layout m.name_of t es) (map (c_value m s1.state.objects) vs) k1 (at_once (ask b vs))
       (p.0.values (all_solid (types_of (a m) es) (types_asked b) valid.0))
@@ -665,8 +668,8 @@ module _ (m : Frame) (calls : Calls) (around : c.Around) (has : HasPrelude aroun
     effect_at (ty.Ref d) v is n f e = absurd (no_number (ty.Ref d) n refl)
     effect_at type v is n f e = absurd f
 
-  step_local_agrees : (x : ℕ) (change : Change) → Claim (step_local x change)
-  step_local_agrees x change t s u k low valid fine h = step_at t x change s u k valid.0 fine h (type_at m.types x) (s.locals x) refl valid.1 (number_local_fits x s valid.0 valid.1 fine) (h.same x valid.0)
+  pub step_local_agrees : (x : ℕ) (change : Change) (t : ℕ) → Claim t (step_local x change)
+  step_local_agrees x change t s u k valid fine h = step_at t x change s u k valid.0 fine h (type_at m.types x) (s.locals x) refl valid.1 (number_local_fits x s valid.0 valid.1 fine) (h.same x valid.0)
     where
       number_local_fits : (x : ℕ) (s : Store) → x < length m.types → IsTrue (is_number (type_at m.types x)) → IsFine s → Fits (g m) s.state.objects (type_at m.types x) (s.locals x)
       number_local_fits x s low n fine = fine.locals x low (λ r. absurd (no_reference (type_at m.types x) n r))
@@ -676,12 +679,12 @@ module _ (m : Frame) (calls : Calls) (around : c.Around) (has : HasPrelude aroun
 
   -- ---- expressions whose values are not used
 
-  abbrev pub EffectClaim : Expr → Type 0
-  EffectClaim e = (t : ℕ) (s : Store) (u : c.Store) (k : ℕ) → IsLowered (a m) e → IsValid (a m) known e → IsFine s → Stores m s u → AgreeOn (λ v s' u'. Keeps m t u.names u' × Stores m s' u') (value_of w e s k) (flows_of around (effect (a m) m.layout m.name_of t e) u k)
+  abbrev pub EffectClaim : ℕ → Expr → Type 0
+  EffectClaim t e = (s : Store) (u : c.Store) (k : ℕ) → IsValid (a m) known e → IsFine s → Stores m s u → AgreeOn (λ v s' u'. Keeps m t u.names u' × Stores m s' u') (value_of w e s k) (flows_of around (effect (a m) m.layout m.name_of t e) u k)
 
-  call_effect : (f : ℕ) (es : Exprs) → ClaimAll es → EffectClaim (call f es)
-  call_effect f es ih t s u k low valid fine h =
-      after around (code_all t es) _ _ _ _ _ u k (full_all es ih t s u k low valid.1 fine h) (λ vs s1 u1 k1 p.
+  pub call_effect : (f : ℕ) (es : Exprs) (t : ℕ) → ClaimAll t es → EffectClaim t (call f es)
+  call_effect f es t ih s u k valid fine h =
+      after around (code_all t es) _ _ _ _ _ u k (full_all es t ih s u k valid.1 fine h) (λ vs s1 u1 k1 p.
       let c' = valid.0 in
       let is : type_of (a m) (call f es) ≡ c'.0.result = ap result_of_function c'.1 in
       let fits = all_suit (core m calls) known ok s1.state.objects (types_of (a m) es) (argument_types (g m) c'.0) vs c'.4 p.1.fits in
@@ -690,17 +693,17 @@ module _ (m : Frame) (calls : Calls) (around : c.Around) (has : HasPrelude aroun
       (subst (λ z. Alike (g m) m.layout z (calls f vs s1.state k1) (around.call (m.name_of f) (map (c_value m s1.state.objects) vs) u1.state k1)) (sym is) (agree.by f c'.0 vs s1.state u1.state k1 tt c'.1 c'.2 c'.3 fits p.1.fine.state p.0.stores.states))
       (subst (λ z. On (Gave (g m) z s1.state) (calls f vs s1.state k1)) (sym is) (ok.calls_fit f c'.0 vs s1.state k1 c'.1 c'.2 c'.3 p.1.fine.state fits)))
 
-  builtin_effect : (b : Builtin) (es : Exprs) → ClaimAll es → EffectClaim (builtin b es)
-  builtin_effect b es ih t s u k low valid fine h =
-      after around (code_all t es) _ _ _ _ _ u k (full_all es ih t s u k low valid.1 fine h) (λ vs s1 u1 k1 p.
+  pub builtin_effect : (b : Builtin) (es : Exprs) (t : ℕ) → ClaimAll t es → EffectClaim t (builtin b es)
+  builtin_effect b es t ih s u k valid fine h =
+      after around (code_all t es) _ _ _ _ _ u k (full_all es t ih s u k valid.1 fine h) (λ vs s1 u1 k1 p.
       let fits = all_suit (core m calls) known ok s1.state.objects (types_of (a m) es) (types_asked b) vs valid.0 p.1.fits in
       ran_agrees t u.names s1 u1 p.0.kept p.0.stores (type_answered b) (builtin_name b) (atoms_from (a m) m.layout m.name_of t es) (map (c_value m s1.state.objects) vs) k1 (at_once (ask b vs))
       (p.0.values (all_solid (types_of (a m) es) (types_asked b) valid.0))
       (rw (asks b (map (c_value m s1.state.objects) vs)) (builtin_alike s1.state u1.state k1 p.0.stores.states b vs fits))
       (operated (core m calls) known (type_answered b) s1.state (ask b vs s1.state) k1 (ask_operates (core m calls) known ok b vs s1.state p.1.fine.state)))
 
-  step_effect : (x : ℕ) (change : Change) → EffectClaim (step_local x change)
-  step_effect x change t s u k low valid fine h = effect_at t x change s u k valid.0 fine h (type_at m.types x) (s.locals x) refl valid.1 (number_local_fits x s valid.0 valid.1 fine) (h.same x valid.0)
+  pub step_effect : (x : ℕ) (change : Change) (t : ℕ) → EffectClaim t (step_local x change)
+  step_effect x change t s u k valid fine h = effect_at t x change s u k valid.0 fine h (type_at m.types x) (s.locals x) refl valid.1 (number_local_fits x s valid.0 valid.1 fine) (h.same x valid.0)
     where
       number_local_fits : (x : ℕ) (s : Store) → x < length m.types → IsTrue (is_number (type_at m.types x)) → IsFine s → Fits (g m) s.state.objects (type_at m.types x) (s.locals x)
       number_local_fits x s low n fine = fine.locals x low (λ r. absurd (no_reference (type_at m.types x) n r))
@@ -708,35 +711,37 @@ module _ (m : Frame) (calls : Calls) (around : c.Around) (has : HasPrelude aroun
           no_reference : (t : Ty) → IsTrue (is_number t) → IsTrue (is_reference t) → ⊥
           no_reference t n r = reference_is t n r
 
+  -- what no node of an effect keeps
+  pub value_unused : (e : Expr) (t : ℕ) → Claim t e → (s : Store) (u : c.Store) (k : ℕ) → IsValid (a m) known e → IsFine s → Stores m s u → AgreeOn (λ v s' u'. Keeps m t u.names u' × Stores m s' u') (value_of w e s k) (flows_of around (code t e) u k)
+  value_unused e t ih s u k valid fine h = agree_weaken (ih s u k valid fine h) (λ v s' flow u' p. (p.0, (p.1.kept, p.1.stores)))
+
   -- ---- all nodes
 
   mutual
-    pub expr_agrees : (e : Expr) → Claim e
-    expr_agrees (int z) = int_agrees z
-    expr_agrees (unsigned n) = unsigned_agrees n
-    expr_agrees (bool b) = bool_agrees b
-    expr_agrees (local x) = local_agrees x
-    expr_agrees (set_local x e) = set_local_agrees x e (expr_agrees e)
-    expr_agrees (convert x e) = convert_node_agrees x e (expr_agrees e)
-    expr_agrees (binary op d e) = binary_agrees op d e (expr_agrees d) (expr_agrees e)
-    expr_agrees (negation e) = negation_agrees e (expr_agrees e)
-    expr_agrees (both d e) = both_agrees d e (expr_agrees d) (expr_agrees e)
-    expr_agrees (either d e) = either_agrees d e (expr_agrees d) (expr_agrees e)
-    expr_agrees (choose e d f) = choose_agrees e d f (expr_agrees e) (expr_agrees d) (expr_agrees f)
-    expr_agrees (call f es) = call_agrees f es (exprs_agree es)
-    expr_agrees (builtin b es) = builtin_agrees b es (exprs_agree es)
-    expr_agrees (step_local x change) = step_local_agrees x change
-    expr_agrees other = λ t s u k low valid fine h. absurd low
+    pub expr_agrees : (e : Expr) (t : ℕ) → IsLowered (a m) e → Claim t e
+    expr_agrees (int z) t low = int_agrees z t
+    expr_agrees (unsigned n) t low = unsigned_agrees n t
+    expr_agrees (bool b) t low = bool_agrees b t
+    expr_agrees (local x) t low = local_agrees x t
+    expr_agrees (set_local x e) t low = set_local_agrees x e t (expr_agrees e t low)
+    expr_agrees (convert x e) t low = convert_node_agrees x e t (expr_agrees e t low)
+    expr_agrees (binary op d e) t low = binary_agrees op d e t low.0 (expr_agrees d t low.1) (expr_agrees e (suc t) low.2)
+    expr_agrees (negation e) t low = negation_agrees e t (expr_agrees e t low)
+    expr_agrees (both d e) t low = both_agrees d e t (expr_agrees d t low.0) (expr_agrees e t low.1)
+    expr_agrees (either d e) t low = either_agrees d e t (expr_agrees d t low.0) (expr_agrees e t low.1)
+    expr_agrees (choose e d f) t low = choose_agrees e d f t (expr_agrees e t low.0) (expr_agrees d t low.1) (expr_agrees f t low.2)
+    expr_agrees (call f es) t low = call_agrees f es t (exprs_agree es t low)
+    expr_agrees (builtin b es) t low = builtin_agrees b es t (exprs_agree es t low)
+    expr_agrees (step_local x change) t low = step_local_agrees x change t
+    expr_agrees other t low = absurd low
 
-    pub exprs_agree : (es : Exprs) → ClaimAll es
-    exprs_agree no_exprs = λ t s u k low valid fine h. both_give (refl, record { values = λ solid'. refl; kept = λ j x below. refl; stores = h })
-    exprs_agree (expr_and e es) = and_agrees e es (expr_agrees e) (exprs_agree es)
+    pub exprs_agree : (es : Exprs) (t : ℕ) → AreLowered (a m) es → ClaimAll t es
+    exprs_agree no_exprs t low = none_agree t
+    exprs_agree (expr_and e es) t low = and_agrees e es t (expr_agrees e t low.0) (exprs_agree es (suc t) low.1)
 
-  value_unused : (e : Expr) (t : ℕ) (s : Store) (u : c.Store) (k : ℕ) → IsLowered (a m) e → IsValid (a m) known e → IsFine s → Stores m s u → AgreeOn (λ v s' u'. Keeps m t u.names u' × Stores m s' u') (value_of w e s k) (flows_of around (code t e) u k)
-  value_unused e t s u k low valid fine h = agree_weaken (expr_agrees e t s u k low valid fine h) (λ v s' flow u' p. (p.0, (p.1.kept, p.1.stores)))
-
-  pub effect_agrees : (e : Expr) → EffectClaim e
-  effect_agrees (call f es) = call_effect f es (exprs_agree es)
-  effect_agrees (builtin b es) = builtin_effect b es (exprs_agree es)
-  effect_agrees (step_local x change) = step_effect x change
-  effect_agrees e = value_unused e
+  pub effect_agrees : (e : Expr) (t : ℕ) → IsLowered (a m) e → EffectClaim t e
+  effect_agrees (call f es) t low = call_effect f es t (exprs_agree es t low)
+  effect_agrees (builtin b es) t low = builtin_effect b es t (exprs_agree es t low)
+  effect_agrees (step_local x change) t low = step_effect x change t
+  effect_agrees (set_field f e d) t low = absurd low
+  effect_agrees e t low = value_unused e t (expr_agrees e t low)

@@ -263,6 +263,7 @@ module _ (a : Around) (l : Layout) (name : ℕ → List ℕ) where
   small_effect (call f es) t = small_then (lowered_all a l name t es) _ (small_exprs es t) (record { deep = omega arith; bare = refl })
   small_effect (builtin b es) t = small_then (lowered_all a l name t es) _ (small_exprs es t) (record { deep = omega arith; bare = refl })
   small_effect (step_local x change) t = few _ (small_step_only t x change (type_at a.locals x))
+  small_effect (set_field f e d) t = small_then (lowered a l name t e) _ (part _ (omega arith) (small_expr e t)) (small_then (lowered a l name (suc t) d) _ (part _ (omega arith) (small_expr d (suc t))) (record { deep = omega arith; bare = refl }))
   small_effect e t = small_expr e t
 
   small_unless : {n : ℕ} (x : List ℕ) → Small n (break_unless x)

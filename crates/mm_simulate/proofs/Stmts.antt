@@ -98,7 +98,7 @@ module _ (m : Frame) (calls : Calls) (around : c.Around) (has : HasPrelude aroun
 
   -- the value of an expression, which fits
   value_agrees : (known : List ℕ) (e : Expr) (t : ℕ) (s : Store) (u : c.Store) (k : ℕ) → IsLowered (a m) e → IsValid (a m) known e → IsFine known s → Stores m s u → AgreeOn (λ v s' u'. Holds m t u.names (type_of (a m) e) v s' u' × nodes.Fitted m calls around has known ok agree (type_of (a m) e) s v s') (value_of w e s k) (c.flows_of around (code t e) u k)
-  value_agrees known e = full m calls around has known ok agree e (expr_agrees m calls around has known ok agree e)
+  value_agrees known e t s u k low = full m calls around has known ok agree e t (expr_agrees m calls around has known ok agree e t low) s u k
 
   -- statements from where other code left
   stmts_from : (in_loop : Bool) (known : List ℕ) (t : ℕ) (old : c.Names) (ss : Stmts) → ClaimAll ss → AreLoweredStmts (a m) ss → AreValid' in_loop known ss → (s : Store) (u : c.Store) (k : ℕ) → IsFine known s → Keeps m t old u → Stores m s u → Agree SameWorld (Did m result t old) (flows_of w m.types ss s k) (c.flows_of around (codes_of t ss) u k)
@@ -108,7 +108,7 @@ module _ (m : Frame) (calls : Calls) (around : c.Around) (has : HasPrelude aroun
   stays t flow s u old keeps h = record { on = refl; kept = keeps; stores = h }
 
   run_agrees : (e : Expr) → Claim (run e)
-  run_agrees e in_loop known t s u k low valid fine h = agree_map (λ v. Next) (effect_agrees m calls around has known ok agree e t s u k low valid fine h) (λ v s1 flow u1 p. record { on = p.0; kept = p.1.0; stores = p.1.1 })
+  run_agrees e in_loop known t s u k low valid fine h = agree_map (λ v. Next) (effect_agrees m calls around has known ok agree e t low s u k valid fine h) (λ v s1 flow u1 p. record { on = p.0; kept = p.1.0; stores = p.1.1 })
 
   if_agrees : (e : Expr) (ss ts : Stmts) → ClaimAll ss → ClaimAll ts → Claim (if_else e ss ts)
   if_agrees e ss ts ihs iht in_loop known t s u k low valid fine h =
@@ -309,7 +309,7 @@ module _ (m : Frame) (calls : Calls) (around : c.Around) (has : HasPrelude aroun
           (agree_weaken (ih true known (suc t) s (flag t u false) k low valid fine (flag_stores t s u false h)) (λ flow s1 flow' u1 p. let d = did_under t false u.names flow s1 flow' (flag t u false) u1 (flag_keeps t u.names u false (λ j x below. refl)) (written u.names (i_ t) (holds.Int (bit_of false))) p in (d.0, λ q. d.1)))
 
       at : (st : Stmt) → Claim st → IsLoweredStmt (a m) st → IsValid' true known st → (s : Store) (u : c.Store) (k : ℕ) → IsFine known s → Stores m s u → Is t true u → Agree SameWorld (λ flow s' flow' u'. Did m result t u.names flow s' flow' u' × (flow ≡ Continued → Is t false u')) (flow_of w m.types st s k) (c.flows_of around (step_in t st (code_of (suc t) st)) u k)
-      at (run e) ih low valid s u k fine h is = agree_map (λ v. Next) (effect_agrees m calls around has known ok agree e (suc t) s u k low valid fine h) (λ v s1 flow u1 p. ((did_under t true u.names Next s1 flow u u1 (λ j x below. refl) is (record { on = p.0; kept = p.1.0; stores = p.1.1 })).0, λ q. cc))
+      at (run e) ih low valid s u k fine h is = agree_map (λ v. Next) (effect_agrees m calls around has known ok agree e (suc t) low s u k valid fine h) (λ v s1 flow u1 p. ((did_under t true u.names Next s1 flow u u1 (λ j x below. refl) is (record { on = p.0; kept = p.1.0; stores = p.1.1 })).0, λ q. cc))
       at st ih low valid s u k fine h is = reset st ih low valid s u k fine h
 
   for_agrees : (e : Expr) (st : Stmt) (ss : Stmts) → Claim st → ClaimAll ss → Claim (for_do e st ss)

@@ -22,7 +22,7 @@ use Rattle.mm_c.specs.Tree as c
 use Rattle.mm_c.specs.Tree.{Code, done, do_then, ◌⨾◌, just}
 use Rattle.mm_agree.specs.Agree.{Layout, kind_of}
 use Rattle.mm_simulate.specs.Names.{temporary, named, function_named}
-use Rattle.mm_simulate.specs.LoweredObjects.{null_trap, load_code, put_code, step_field_code, compound_code, move_code, new_code}
+use Rattle.mm_simulate.specs.LoweredObjects.{null_trap, load_code, store_code, put_code, step_field_code, compound_code, move_code, new_code}
 pub use Rattle.mm_simulate.specs.Codes.{plain, word, greatest, int_atom, bit, i_, u_, p_, v_, of_}
 pub use Rattle.mm_simulate.specs.Codes.{block_of, set, only_if, if_or, trap_code, overflow_if}
 pub use Rattle.mm_simulate.specs.Codes.{test_by, sum_test, difference_test, bound_test, minus_one}
@@ -83,12 +83,14 @@ module _ (a : Around) (l : Layout) (named_of : ℕ → List ℕ) where
     lowered_all t (expr_and e es) = lowered t e ⨾ lowered_all (suc t) es
 
   -- an expression whose value is not used: neither the result of a call nor a step's old value is
-  -- kept
+  -- kept, nor what a field is set to
   abbrev pub effect : ℕ → Expr → Code
   effect t (call f es) = lowered_all t es ⨾ just (c.run (Named (named_of f) (atoms_from t es)))
   effect t (builtin b es) = lowered_all t es ⨾
       just (c.run (Named (builtin_name b) (atoms_from t es)))
   effect t (step_local x change) = step_only t x change (type_at a.locals x)
+  effect t (set_field f e d) = lowered t e ⨾ (lowered (suc t) d ⨾
+      store_code t (type_of a (field f e)) (field_place f e) (of_ (type_of a (field f e)) (suc t)))
   effect t e = lowered t e
 
   -- ---- statements
