@@ -220,7 +220,7 @@ module _ (m : Frame) (around' : c.Around) (has : HasPrelude around') where
 
 module _ (p : Program) (callable : Function → Bool) (l : Layout) (name_of : ℕ → List ℕ) where
   abbrev pub frame_of : Function → Frame
-  frame_of f = record { program = p; callable = callable; types = local_types p.classes f; arguments = length (argument_types p.classes f); layout = l; name_of = name_of }
+  frame_of f = record { program = p; callable = callable; types = local_types p.classes f; arguments = length (argument_types p.classes f); layout = l; name_of = name_of; pointers = λ t. false }
 
   -- ---- the stores as a function begins
 
@@ -298,6 +298,7 @@ module _ (p : Program) (callable : Function → Bool) (l : Layout) (name_of : �
       stands = λ x low. start_stands p.classes l s.objects (argument_types p.classes f) vs f.locals x fits;
       ints = λ t. ap (λ (k : c.Kinds). k (i_ t)) kinds_are ∙ int_kinds ds declared t (put_other 0 (map kind_of (local_types p.classes f)) c.no_kinds (temporary kind.Int t) (λ y le. refl));
       kinds = λ x low. ap (λ (k : c.Kinds). k (v_ x)) kinds_are ∙ other_kinds ds declared x ∙ kind_is x low;
+      pointers = λ t is. cc;
     }
 
   -- ---- the body and its end

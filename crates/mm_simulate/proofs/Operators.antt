@@ -31,7 +31,7 @@ use Rattle.mm_agree.specs.Agree.{Agree, both_stop, HasPrelude}
 use Rattle.mm_agree.proofs.Steps.{SameWorld, AgreeOn, agree_ran, either_code, only_step, op_gives}
 use Rattle.mm_simulate.specs.Names.{temporary, named}
 use Rattle.mm_simulate.specs.Names as name
-use Rattle.mm_simulate.specs.Lowered.{plain, word, i_, u_, v_, of_, set, only_if, trap_code, minus_test, zero_trap, unless_over, on_int, on_word}
+use Rattle.mm_simulate.specs.Lowered.{plain, word, i_, u_, p_, v_, of_, set, only_if, trap_code, minus_test, zero_trap, unless_over, on_int, on_word}
 use Rattle.mm_simulate.proofs.Names.{same, apart_number}
 use Rattle.mm_simulate.proofs.Ints.{least_int, quotient_is}
 use Rattle.mm_simulate.proofs.Stores.{Frame, g, c_value, Stores, Keeps, Holds, set_agrees}
@@ -80,6 +80,7 @@ module _ (m : Frame) where
     stands = h.stands;
     ints = λ t. ap (λ (k : c.Kinds). k (i_ t)) f.kinds ∙ h.ints t;
     kinds = λ x low. ap (λ (k : c.Kinds). k (v_ x)) f.kinds ∙ h.kinds x low;
+    pointers = λ t is. ap (λ (k : c.Kinds). k (p_ t)) f.kinds ∙ h.pointers t is;
   }
 
   pub keeps_near : (w t : ℕ) (old : c.Names) (u v : c.Store) → t ≤ w → Near w u v → Keeps m t old u → Keeps m t old v

@@ -2,7 +2,7 @@
 use Rattle.mm_core.specs.Keeps as keeps
 use Rattle.mm_core.specs.Virtual.{Calls}
 use Rattle.std.proofs.Common.{◌≡◌, ◌≢◌, ℕ, ◌<◌, List, length, refl, sym, ◌∙◌, subst, arith}
-use Rattle.std.specs.Prelude.{Bool, true, false, nat_eq}
+use Rattle.std.specs.Prelude.{Bool, true, false, IsTrue, nat_eq}
 use Rattle.std.proofs.lemmas.Bool.{eqb-true}
 use Rattle.mm_meaning.specs.Run.{Gives}
 use Rattle.mm_classes.specs.declared.class.Ty.{Ty}
@@ -24,7 +24,7 @@ use Rattle.mm_agree.proofs.Values.{received, fitted_same, kind_fits, fits_stands
 use Rattle.mm_agree.proofs.Steps.{AgreeOn, with_value, gives_ran, set_ran}
 use Rattle.mm_simulate.specs.Names.{temporary, named}
 use Rattle.mm_simulate.specs.Names as name
-use Rattle.mm_simulate.specs.Lowered.{i_, v_, of_, set}
+use Rattle.mm_simulate.specs.Lowered.{i_, p_, v_, of_, set}
 use Rattle.mm_simulate.proofs.Names.{written, kept, kept_other, kept_local}
 
 -- What stands around a function's statements on both sides, but for calls.
@@ -35,6 +35,8 @@ pub record Frame : Type 0 where
   pub arguments : ℕ
   pub layout : Layout
   pub name_of : ℕ → List ℕ
+  -- the pointer temporaries that are declared
+  pub pointers : ℕ → Bool
 
 -- the same with what calls do
 abbrev pub core : Frame → Calls → keeps.Frame
@@ -61,6 +63,7 @@ module _ (m : Frame) where
     -- what is named as an `int` was declared as one, if it was declared; and a local by its type
     pub ints : (t : ℕ) → u.kinds (i_ t) ≡ kind.Int
     pub kinds : (x : ℕ) → x < length m.types → u.kinds (v_ x) ≡ kind_of (type_at m.types x)
+    pub pointers : (t : ℕ) → IsTrue (m.pointers t) → u.kinds (p_ t) ≡ kind.Pointer
 
   -- the temporaries below t are as in `old`
   abbrev pub Keeps : ℕ → c.Names → c.Store → Type 0
@@ -80,6 +83,7 @@ module _ (m : Frame) where
     stands = h.stands;
     ints = h.ints;
     kinds = h.kinds;
+    pointers = h.pointers;
   }
 
   pub keeps_temporary : (k : CKind) (t : ℕ) (v : CValue) (old : c.Names) (u : c.Store) → Keeps t old u → Keeps t old (with_value u (named (temporary k t)) v)
@@ -112,6 +116,7 @@ module _ (m : Frame) where
     stands = λ x low. stands_grew g m.layout s.state.objects s'.objects (s.locals x) grew (h.stands x low);
     ints = h.ints;
     kinds = h.kinds;
+    pointers = h.pointers;
   }
 
   -- what waits in a temporary while objects are made
@@ -135,6 +140,7 @@ module _ (m : Frame) where
     stands = λ y low. set_at (nat_eq y x) x y v s refl low f (h.stands y low);
     ints = h.ints;
     kinds = h.kinds;
+    pointers = h.pointers;
   }
 
   pub keeps_local : (x : ℕ) (v : CValue) (t : ℕ) (old : c.Names) (u : c.Store) → Keeps t old u → Keeps t old (with_value u (v_ x) v)
