@@ -21,3 +21,4 @@ pub mod Scope
 pub mod Wellformed
 pub mod Witness
 pub mod Decimals
+pub mod Objects
