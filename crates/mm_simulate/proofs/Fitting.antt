@@ -368,4 +368,5 @@ module _ (h : Here) (a : Around) (l : Layout) (name : ℕ → List ℕ) (n : ℕ
       effect_fits (builtin b es) t low valid le = fit_then h (lowered_all a l name t es) _ (exprs_fit es t low valid.1 (omega arith)) (run_fits (builtin_name b) (type_answered b) (types_asked b) (types_of a es) es t (asked b) refl valid.0 (omega arith))
       effect_fits (step_local x change) t low valid le = fit_step_only (type_at a.locals x) t x change (omega arith) valid.1 (ok.locals x valid.0)
       effect_fits (set_field f e d) t low valid le = absurd low
+      effect_fits (compound op f e d) t low valid le = absurd low
       effect_fits e t low valid le = expr_fits e t low valid le

@@ -17,7 +17,7 @@ use Rattle.mm_core.specs.declared.part.Target.{Target}
 use Rattle.mm_core.specs.declared.part.Target.TheVariants as to
 use Rattle.mm_core.specs.declared.part.Change.{Change}
 use Rattle.mm_core.specs.declared.part.Change.TheVariants.{Up, Down}
-use Rattle.mm_core.specs.Tree.{Expr, int, unsigned, bool, local, set_local, set_field, convert, binary, negation, both, either, choose, call, builtin, step_local, Exprs, no_exprs, expr_and}
+use Rattle.mm_core.specs.Tree.{Expr, int, unsigned, bool, local, set_local, set_field, convert, binary, negation, both, either, choose, call, builtin, step_local, compound, Exprs, no_exprs, expr_and}
 use Rattle.mm_core.specs.Heads.{type_at, is_reference, argument_types, class_in, same_type}
 use Rattle.mm_core.specs.State as source
 use Rattle.mm_core.specs.State.{Value, Truth, Number, Word, Null, At, Nothing, Object, State, Store, with_local, or_trap, outside, at_once, object_at, class_of}
@@ -744,4 +744,5 @@ module _ (m : Frame) (calls : Calls) (around : c.Around) (has : HasPrelude aroun
   effect_agrees (builtin b es) t low = builtin_effect b es t (exprs_agree es t low)
   effect_agrees (step_local x change) t low = step_effect x change t
   effect_agrees (set_field f e d) t low = absurd low
+  effect_agrees (compound op f e d) t low = absurd low
   effect_agrees e t low = value_unused e t (expr_agrees e t low)

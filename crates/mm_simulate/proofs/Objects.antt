@@ -68,14 +68,14 @@ module _ (m : Frame) (calls : Calls) (around : c.Around) (has : HasPrelude aroun
   -- ---- fields
 
   module _ (t : ℕ) (old : c.Names) (s : Store) (u : c.Store) (k : ℕ) (fine : IsGood s) (h : Stores m s u) (keeps : Keeps m t old u) where
-    field_at : (f d o' : ℕ) (q : Path) → Shows (g m) s.state.objects d o' q → IsFieldOf (g m) d f → u.names (p_ t) ≡ c_value m s.state.objects (At o' q) → AgreeOn (Holds m t old (field_type (g m) d f)) (does (get_field f (At o' q)) s k) (flows_of around (load_code t (field_type (g m) d f) (m.layout.member d f)) u k)
+    field_at : (f d o' : ℕ) (q : Path) → Shows (g m) s.state.objects d o' q → IsFieldOf (g m) d f → u.names (p_ t) ≡ c_value m s.state.objects (At o' q) → AgreeOn (Holds m t old (field_type (g m) d f)) (does (get_field f (At o' q)) s k) (flows_of around (load_code (p_ t) t (field_type (g m) d f) (m.layout.member d f)) u k)
     field_at f d o' q shows is e =
         let n = c_value m s.state.objects ((object_at s.state.objects o').fields q f) in
         let loaded : load u.state.memory (cell_of (field_type (g m) d f)) (u.names (p_ t)) (m.layout.member d f) ≡ Some n = rw e (load_field (g m) m.layout s.state u.state h.states d o' q shows f is) in
         let fits : Fits (g m) s.state.objects (field_type (g m) d f) ((object_at s.state.objects o').fields q f) = subst (λ z. Fits (g m) s.state.objects (field_type (g m) z f) ((object_at s.state.objects o').fields q f)) shows.ends (fine.state.fields o' f q shows.there shows.part) in
         set_agrees m around t old (field_type (g m) d f) ((object_at s.state.objects o').fields q f) s u k (Load (cell_of (field_type (g m) d f)) (past (p_ t) (m.layout.member d f))) (load_right around u k (cell_of (field_type (g m) d f)) (p_ t) (m.layout.member d f) n loaded) fits keeps h
 
-    field_value : (f d : ℕ) (v : Value) → Fits (g m) s.state.objects (ty.Ref d) v → IsFieldOf (g m) d f → u.names (p_ t) ≡ c_value m s.state.objects v → AgreeOn (Holds m t old (field_type (g m) d f)) (does (get_field f v) s k) (flows_of around (load_code t (field_type (g m) d f) (m.layout.member d f)) u k)
+    field_value : (f d : ℕ) (v : Value) → Fits (g m) s.state.objects (ty.Ref d) v → IsFieldOf (g m) d f → u.names (p_ t) ≡ c_value m s.state.objects v → AgreeOn (Holds m t old (field_type (g m) d f)) (does (get_field f v) s k) (flows_of around (load_code (p_ t) t (field_type (g m) d f) (m.layout.member d f)) u k)
     field_value f d (At o' q) fits is e = field_at f d o' q fits is e
     field_value f d v fits is e = absurd fits
 
@@ -91,7 +91,7 @@ module _ (m : Frame) (calls : Calls) (around : c.Around) (has : HasPrelude aroun
       after around (code t e) _ _ _ _ _ u k (full m calls around has known ok agree e t ih s u k valid.1 fine h) (λ v s1 u1 k1 p.
       let d = valid.0.0 in
       let is = valid.0.1.0 in
-      subst (λ z. AgreeOn (Holds m t u.names (field_type (g m) (class_shown z) f)) (does (get_field f v) s1 k1) (flows_of around (load_code t (field_type (g m) (class_shown z) f) (m.layout.member (class_shown z) f)) u1 k1)) (sym is)
+      subst (λ z. AgreeOn (Holds m t u.names (field_type (g m) (class_shown z) f)) (does (get_field f v) s1 k1) (flows_of around (load_code (p_ t) t (field_type (g m) (class_shown z) f) (m.layout.member (class_shown z) f)) u1 k1)) (sym is)
       (field_value t u.names s1 u1 k1 p.1.fine p.0.stores p.0.kept f d v (fits_as (type_of (a m) e) (ty.Ref d) s1.state.objects v is p.1.fits) valid.0.2 (ref_in t u.names e d v s1 u1 is p.0)))
 
   -- ---- a test for null

@@ -25,8 +25,8 @@ use Rattle.mm_c.specs.Tree as tree
 use Rattle.mm_c.specs.Tree.{Code, done, do_then, ◌⨾◌, just}
 use Rattle.mm_c.specs.WellFormed.{code_locals, stmt_locals, code_depth}
 use Rattle.mm_agree.specs.Agree.{Layout}
-use Rattle.mm_simulate.specs.LoweredObjects.{past, null_trap, load_code, put_code, step_field_code, as_number, common_type, compound_code, add_code, shift_code, way_code, unless_null, move_code, marks_code, new_code}
-use Rattle.mm_simulate.specs.Lowered.{plain, word, p_, v_, block_of, set, only_if, if_or, i_, on_int, on_word, operator, conversion, step_code, called_for, builtin_name, atoms_from, break_unless, flagged, step_in, looped, lowered, lowered_all, lowered_stmt, lowered_stmts, ending, nesting, nesting_all, nesting_stmt, nesting_stmts, effect, step_only}
+use Rattle.mm_simulate.specs.LoweredObjects.{past, null_trap, load_code, put_code, step_field_code, as_number, common_type, combine_code, add_code, shift_code, way_code, unless_null, move_code, marks_code, new_code}
+use Rattle.mm_simulate.specs.Lowered.{plain, word, p_, v_, block_of, set, only_if, if_or, i_, on_int, on_word, operator, conversion, step_code, called_for, builtin_name, atoms_from, break_unless, flagged, step_in, looped, combined, lowered, lowered_all, lowered_stmt, lowered_stmts, ending, nesting, nesting_all, nesting_stmt, nesting_stmts, effect, step_only}
 
 -- three more for an operator
 pub record Small (n : ℕ) (xs : Code) : Type 0 where
@@ -168,12 +168,12 @@ small_as_number t ty.Unsigned other = small_set _ _
 small_as_number t type ty.Unsigned = small_set _ _
 small_as_number t type other = small_done
 
-small_compound : (t : ℕ) (op : Operator) (type right : Ty) (n : ℕ) → Small 0 (compound_code t op type right n)
-small_compound t op type right n =
+small_combine : (t : ℕ) (op : Operator) (type right : Ty) → Small 0 (combine_code t op type right)
+small_combine t op type right =
     small_then (as_number t type (common_type type right)) _ (small_as_number t type (common_type type right))
     (small_then (as_number (suc t) right (common_type type right)) _ (small_as_number (suc t) right (common_type type right))
     (small_then (operator t op (common_type type right) (common_type type right)) _ (small_operator t op (common_type type right) (common_type type right))
-    (small_then (as_number t (common_type type right) type) _ (small_as_number t (common_type type right) type) (record { deep = omega arith; bare = refl }))))
+    (small_as_number t (common_type type right) type)))
 
 -- code of assignments alone
 record Flat (xs : Code) : Type 0 where
@@ -229,6 +229,11 @@ module _ (a : Around) (l : Layout) (name : ℕ → List ℕ) where
   few : {n : ℕ} (xs : Code) → Small 0 xs → Small n xs
   few xs f = small_less 0 xs (omega arith) f
 
+  small_compound : {n : ℕ} (op : Operator) (f : ℕ) (e d : Expr) (t : ℕ) → Small n (lowered a l name t e) → Small n (lowered a l name (suc (suc t)) d) → (end : Code) → Small n end → Small n (combined a l name t op f e (lowered a l name t e) (lowered a l name (suc (suc t)) d) (type_of a d) end)
+  small_compound op f e d t x y end z =
+      small_then (lowered a l name t e) _ x (small_then (load_code (p_ t) (suc t) (type_of a (field f e)) (l.member (class_shown (type_of a e)) f)) _ (small_set _ _)
+      (small_then (lowered a l name (suc (suc t)) d) _ y (small_then (combine_code (suc t) op (type_of a (field f e)) (type_of a d)) end (few _ (small_combine (suc t) op (type_of a (field f e)) (type_of a d))) z)))
+
   mutual
     pub small_expr : (e : Expr) (t : ℕ) → Small (nesting e) (lowered a l name t e)
     small_expr (int z) t = small_set _ _
@@ -252,7 +257,7 @@ module _ (a : Around) (l : Layout) (name : ℕ → List ℕ) where
     small_expr (move d n e) t = small_then (lowered a l name t e) _ (small_expr e t) (few _ (small_move l t (type_of a e) d (node a.classes d n)))
     small_expr (new d) t = few _ (small_new a.classes l (p_ t) d)
     small_expr (step_field f change e) t = small_then (lowered a l name t e) _ (small_expr e t) (few _ (small_step_field t change (type_of a (field f e)) (l.member (class_shown (type_of a e)) f)))
-    small_expr (compound op f e d) t = small_then (lowered a l name t e) _ (part _ (omega arith) (small_expr e t)) (small_then (load_code t (type_of a (field f e)) (l.member (class_shown (type_of a e)) f)) _ (small_set _ _) (small_then (lowered a l name (suc t) d) _ (part _ (omega arith) (small_expr d (suc t))) (few _ (small_compound t op (type_of a (field f e)) (type_of a d) (l.member (class_shown (type_of a e)) f)))))
+    small_expr (compound op f e d) t = small_compound op f e d t (part _ (omega arith) (small_expr e t)) (part _ (omega arith) (small_expr d (suc (suc t)))) _ (few _ (small_put t (type_of a (field f e)) (l.member (class_shown (type_of a e)) f)))
     small_expr other t = small_done
 
     pub small_exprs : (es : Exprs) (t : ℕ) → Small (nesting_all es) (lowered_all a l name t es)
@@ -264,6 +269,7 @@ module _ (a : Around) (l : Layout) (name : ℕ → List ℕ) where
   small_effect (builtin b es) t = small_then (lowered_all a l name t es) _ (small_exprs es t) (record { deep = omega arith; bare = refl })
   small_effect (step_local x change) t = few _ (small_step_only t x change (type_at a.locals x))
   small_effect (set_field f e d) t = small_then (lowered a l name t e) _ (part _ (omega arith) (small_expr e t)) (small_then (lowered a l name (suc t) d) _ (part _ (omega arith) (small_expr d (suc t))) (record { deep = omega arith; bare = refl }))
+  small_effect (compound op f e d) t = small_compound op f e d t (part _ (omega arith) (small_expr e t)) (part _ (omega arith) (small_expr d (suc (suc t)))) _ (record { deep = omega arith; bare = refl })
   small_effect e t = small_expr e t
 
   small_unless : {n : ℕ} (x : List ℕ) → Small n (break_unless x)

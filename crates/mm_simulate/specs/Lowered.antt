@@ -3,6 +3,7 @@
 use Rattle.std.specs.Prelude.{◌≡◌, ℕ, zero, suc, max, Bool, true, false, nat_eq, List, [], ◌∷◌, ◌++◌, length, map, Option, Some, None, if◌then◌else◌, slice_get}
 use Rattle.mm_classes.specs.declared.class.Ty.{Ty}
 use Rattle.mm_classes.specs.declared.class.Ty.TheVariants as ty
+use Rattle.mm_core.specs.declared.part.Operator.{Operator}
 use Rattle.mm_core.specs.Tree.{Expr, int, unsigned, bool, null, local, set_local, field, set_field, not_null, move, convert, binary, negation, both, either, choose, call, builtin, new, step_local, step_field, compound, Exprs, no_exprs, expr_and, Stmt, block, run, if_else, while_do, do_while, for_do, break, continue, return_nothing, return, make, Stmts, no_stmts, stmt_and, Function, Program}
 use Rattle.mm_classes.specs.Questions.{node}
 use Rattle.mm_core.specs.Heads.{is_main, type_at, class_shown, argument_types}
@@ -22,7 +23,7 @@ use Rattle.mm_c.specs.Tree as c
 use Rattle.mm_c.specs.Tree.{Code, done, do_then, ◌⨾◌, just}
 use Rattle.mm_agree.specs.Agree.{Layout, kind_of}
 use Rattle.mm_simulate.specs.Names.{temporary, named, function_named}
-use Rattle.mm_simulate.specs.LoweredObjects.{null_trap, load_code, store_code, put_code, step_field_code, compound_code, move_code, new_code}
+use Rattle.mm_simulate.specs.LoweredObjects.{null_trap, load_code, store_code, put_code, step_field_code, combine_code, move_code, new_code}
 pub use Rattle.mm_simulate.specs.Codes.{plain, word, greatest, int_atom, bit, i_, u_, p_, v_, of_}
 pub use Rattle.mm_simulate.specs.Codes.{block_of, set, only_if, if_or, trap_code, overflow_if}
 pub use Rattle.mm_simulate.specs.Codes.{test_by, sum_test, difference_test, bound_test, minus_one}
@@ -39,8 +40,15 @@ module _ (a : Around) (l : Layout) (named_of : ℕ → List ℕ) where
   atoms_from t (expr_and e es) = Name (of_ (type_of a e) t) ∷ atoms_from (suc t) es
 
   -- where a field stands in the subobject that a pointer shows
-  abbrev field_place : ℕ → Expr → ℕ
+  abbrev pub field_place : ℕ → Expr → ℕ
   field_place f e = l.member (class_shown (type_of a e)) f
+
+  -- An operator on the old value of a field, where the code of the pointer, of the value and of what
+  -- becomes of the result are known.
+  abbrev pub combined : ℕ → Operator → ℕ → Expr → Code → Code → Ty → Code → Code
+  combined t op f e pointer value right end =
+      pointer ⨾ (load_code (p_ t) (suc t) (type_of a (field f e)) (field_place f e) ⨾
+      (value ⨾ (combine_code (suc t) op (type_of a (field f e)) right ⨾ end)))
 
   abbrev mutual
     -- the value goes to t
@@ -63,7 +71,8 @@ module _ (a : Around) (l : Layout) (named_of : ℕ → List ℕ) where
         called_for t (type_answered b) (Named (builtin_name b) (atoms_from t es))
     lowered t (step_local x change) = step_code t x change (type_at a.locals x)
     lowered t (null d) = set (p_ t) (Atom (plain 0))
-    lowered t (field f e) = lowered t e ⨾ load_code t (type_of a (field f e)) (field_place f e)
+    lowered t (field f e) = lowered t e ⨾
+        load_code (p_ t) t (type_of a (field f e)) (field_place f e)
     lowered t (set_field f e d) = lowered t e ⨾
         (lowered (suc t) d ⨾ put_code t (type_of a (field f e)) (field_place f e))
     lowered t (not_null e) = lowered t e ⨾ null_trap t
@@ -71,16 +80,19 @@ module _ (a : Around) (l : Layout) (named_of : ℕ → List ℕ) where
     lowered t (new d) = new_code a.classes l (p_ t) d
     lowered t (step_field f change e) = lowered t e ⨾
         step_field_code t change (type_of a (field f e)) (field_place f e)
-    lowered t (compound op f e d) = lowered t e ⨾
-        (load_code t (type_of a (field f e)) (field_place f e) ⨾
-        (lowered (suc t) d ⨾
-        compound_code t op (type_of a (field f e)) (type_of a d) (field_place f e)))
+    lowered t (compound op f e d) = combined t op f e (lowered t e) (lowered (suc (suc t)) d)
+        (type_of a d) (put_code t (type_of a (field f e)) (field_place f e))
     lowered t other = done
 
     -- the values go to t and the temporaries after it
     pub lowered_all : ℕ → Exprs → Code
     lowered_all t no_exprs = done
     lowered_all t (expr_and e es) = lowered t e ⨾ lowered_all (suc t) es
+
+  -- the value in the next temporary goes to the field
+  abbrev pub field_set : ℕ → ℕ → Expr → Code
+  field_set t f e = store_code (p_ t) (type_of a (field f e)) (field_place f e)
+      (of_ (type_of a (field f e)) (suc t))
 
   -- an expression whose value is not used: neither the result of a call nor a step's old value is
   -- kept, nor what a field is set to
@@ -90,7 +102,9 @@ module _ (a : Around) (l : Layout) (named_of : ℕ → List ℕ) where
       just (c.run (Named (builtin_name b) (atoms_from t es)))
   effect t (step_local x change) = step_only t x change (type_at a.locals x)
   effect t (set_field f e d) = lowered t e ⨾ (lowered (suc t) d ⨾
-      store_code t (type_of a (field f e)) (field_place f e) (of_ (type_of a (field f e)) (suc t)))
+      field_set t f e)
+  effect t (compound op f e d) = combined t op f e (lowered t e) (lowered (suc (suc t)) d)
+      (type_of a d) (field_set t f e)
   effect t e = lowered t e
 
   -- ---- statements
@@ -138,7 +152,7 @@ abbrev mutual
   reach (not_null e) = reach e
   reach (move d n e) = reach e
   reach (step_field f change e) = max (reach e) 2
-  reach (compound op f e d) = max (reach e) (max (suc (reach d)) 3)
+  reach (compound op f e d) = max (reach e) (max (suc (suc (reach d))) 4)
   reach other = 1
 
   pub reach_all : Exprs → ℕ

@@ -30,31 +30,31 @@ null_trap t = set (i_ t) (Binary (Name (p_ t)) o.Equal (plain 0)) ⨾ only_if (i
 
 -- ---- fields
 
--- a field of a type, n bytes on, goes to t
-abbrev pub load_code : ℕ → Ty → ℕ → Code
-load_code t type n = set (of_ type t) (Load (cell_of type) (past (p_ t) n))
+-- a field of a type, n bytes past the pointer p, goes to t
+abbrev pub load_code : List ℕ → ℕ → Ty → ℕ → Code
+load_code p t type n = set (of_ type t) (Load (cell_of type) (past p n))
 
 -- the name w goes to the field
-abbrev pub store_code : ℕ → Ty → ℕ → List ℕ → Code
-store_code t type n w = just (tree.store (cell_of type) (past (p_ t) n) (Name w))
+abbrev pub store_code : List ℕ → Ty → ℕ → List ℕ → Code
+store_code p type n w = just (tree.store (cell_of type) (past p n) (Name w))
 
 -- the value in the next temporary goes to the field, and then to t
 abbrev pub put_code : ℕ → Ty → ℕ → Code
-put_code t type n = store_code t type n (of_ type (suc t)) ⨾
+put_code t type n = store_code (p_ t) type n (of_ type (suc t)) ⨾
     set (of_ type t) (Atom (Name (of_ type (suc t))))
 
 -- the old value of a field goes to t, and the field steps
 abbrev pub step_field_code : ℕ → Change → Ty → ℕ → Code
 step_field_code t change ty.Unsigned n =
-    load_code t ty.Unsigned n ⨾
+    load_code (p_ t) t ty.Unsigned n ⨾
     (set (u_ (suc t)) (Binary (Name (u_ t)) (change_in_c change) (word 1)) ⨾
-    store_code t ty.Unsigned n (u_ (suc t)))
+    store_code (p_ t) ty.Unsigned n (u_ (suc t)))
 step_field_code t change other n =
-    load_code t ty.Int n ⨾
+    load_code (p_ t) t ty.Int n ⨾
     (set (i_ (suc t)) (Binary (Name (i_ t)) o.Equal (step_end change)) ⨾
     (overflow_if (i_ (suc t)) ⨾
     (set (i_ (suc t)) (Binary (Name (i_ t)) (change_in_c change) (plain 1)) ⨾
-    store_code t ty.Int n (i_ (suc t)))))
+    store_code (p_ t) ty.Int n (i_ (suc t)))))
 
 -- what stands in t of a type, as an `int` or an `unsigned`
 abbrev pub as_number : ℕ → Ty → Ty → Code
@@ -69,15 +69,14 @@ common_type ty.Unsigned type = ty.Unsigned
 common_type type ty.Unsigned = ty.Unsigned
 common_type type other = ty.Int
 
--- An operator on the old value of a field, which is in t, and a value in the next temporary; the
--- result goes to t and to the field.
-abbrev pub compound_code : ℕ → Operator → Ty → Ty → ℕ → Code
-compound_code t op type right n =
+-- An operator on a value of a type in t and one of another type in the next temporary; the result,
+-- of the first type, goes to t.
+abbrev pub combine_code : ℕ → Operator → Ty → Ty → Code
+combine_code t op type right =
     as_number t type (common_type type right) ⨾
     (as_number (suc t) right (common_type type right) ⨾
     (operator t op (common_type type right) (common_type type right) ⨾
-    (as_number t (common_type type right) type ⨾
-    store_code t type n (of_ type t))))
+    as_number t (common_type type right) type))
 
 -- ---- moves
 
