@@ -22,3 +22,4 @@ pub mod Wellformed
 pub mod Witness
 pub mod Decimals
 pub mod Objects
+pub mod ObjectTests
