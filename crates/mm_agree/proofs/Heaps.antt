@@ -103,10 +103,10 @@ module _ (g : List Class) (l : Layout) where
     abbrev old : Object
     old = object_at s.objects o
 
-    abbrev now : Object
+    abbrev pub now : Object
     now = record { class = (object_at s.objects o).class; fields = with_field (object_at s.objects o).fields t f v }
 
-    abbrev others : List Object
+    abbrev pub others : List Object
     others = slice_set s.objects o now
 
     abbrev n : CValue
@@ -123,6 +123,9 @@ module _ (g : List Class) (l : Layout) where
       | inl e ↦ ap (class_of others) e ∙ ap (λ (x : Object). x.class) now_at ∙ sym (ap (class_of s.objects) e)
       | inr ne ↦ ap (λ (x : Object). x.class) (other_at p ne)
     ]
+
+    pub put_grew : Grew s.objects others
+    put_grew = record { longer = (let e = length-set s.objects o now in omega arith); same = λ p low. put_class p }
 
     put_alike : (w : Value) → in_c l others w ≡ in_c l s.objects w
     put_alike w = in_c_alike s.objects others w put_class

@@ -23,3 +23,4 @@ pub mod Witness
 pub mod Decimals
 pub mod Objects
 pub mod ObjectTests
+pub mod ObjectStores

@@ -1,10 +1,9 @@
 -- Pointers are equal in C where they are equal in the source.
-use Rattle.std.proofs.Common.{◌≡◌, ◌≢◌, ℕ, suc, ◌+◌, ◌<◌, List, [], ◌∷◌, refl, sym, ap, ap₂, ◌∙◌, subst, arith, inl, inr}
-use Rattle.std.specs.Prelude.{ℤ, pos, Bool, true, false, not, ◌&&◌, ◌==◌, IsTrue, nat_eq, Option, Some, None, Ok, if◌then◌else◌}
+use Rattle.std.proofs.Common.{◌≡◌, ℕ, suc, ◌<◌, List, refl, sym, ap, ◌∙◌, subst, arith, inl, inr}
+use Rattle.std.specs.Prelude.{Bool, true, false, not, ◌&&◌, ◌==◌, IsTrue, nat_eq, Some, if◌then◌else◌}
 use Rattle.std.specs.Str.{bytes_eq}
 use Rattle.std.proofs.lemmas.Bool.{eq-eqb, eqb-true}
 use Rattle.std.proofs.lemmas.Slice.Eq.{bytes_eq-Decides}
-use Rattle.mm_meaning.specs.Run.{Run, Gives, Stops}
 use Rattle.mm_classes.specs.declared.class.Ty.{Ty}
 use Rattle.mm_classes.specs.declared.class.Ty.TheVariants as ty
 use Rattle.mm_classes.specs.Classes.{Class}
@@ -20,7 +19,6 @@ use Rattle.mm_core.specs.Valid.{type_of, compares, is_number, is_pointer, tests_
 use Rattle.mm_core.specs.Fits.{Shows, Fits}
 use Rattle.mm_core.specs.Keeps.{Known}
 use Rattle.mm_core.proofs.Heap.{fits_grew}
-use Rattle.mm_c.specs.declared.value.CValue.{CValue}
 use Rattle.mm_c.specs.declared.value.CValue.TheVariants as holds
 use Rattle.mm_c.specs.declared.tree.CKind.TheVariants as kind
 use Rattle.mm_c.specs.declared.tree.CAtom.TheVariants.{Name}
@@ -30,14 +28,14 @@ use Rattle.mm_c.specs.declared.tree.CExpr.TheVariants.{Binary}
 use Rattle.mm_c.specs.Memory.{Block}
 use Rattle.mm_c.specs.CMeaning as c
 use Rattle.mm_c.specs.CMeaning.{bit_of, flows_of}
-use Rattle.mm_c.specs.Tree.{Code, ◌⨾◌}
-use Rattle.mm_agree.specs.Agree.{kind_of, in_c, States, CallsAgree, HasPrelude}
+use Rattle.mm_c.specs.Tree.{Code}
+use Rattle.mm_agree.specs.Agree.{CallsAgree, HasPrelude}
 use Rattle.mm_agree.specs.Layouts.{IsLayout}
 use Rattle.mm_agree.proofs.Heaps.{block_there}
 use Rattle.mm_agree.proofs.Steps.{AgreeOn, after, op_gives}
-use Rattle.mm_simulate.specs.Lowered.{i_, p_, of_, set, op_in_c, operator, lowered}
+use Rattle.mm_simulate.specs.Lowered.{p_, of_, set, op_in_c, operator, lowered}
 use Rattle.mm_simulate.proofs.Names.{is_false}
-use Rattle.mm_simulate.proofs.Stores.{Frame, is_void, g, a, c_value, Stores, Keeps, Holds, set_agrees, still, core}
+use Rattle.mm_simulate.proofs.Stores.{Frame, g, a, c_value, Stores, Keeps, Holds, set_agrees, still, core}
 use Rattle.mm_simulate.proofs.Nodes.{Same, Claim, full, value_at}
 
 -- a pointer or a reference to a class

@@ -1,9 +1,8 @@
 -- The code of nodes on objects gives their values: one lemma a node.
-use Rattle.std.proofs.Common.{◌≡◌, ◌≢◌, ℕ, suc, ◌+◌, ◌<◌, List, [], ◌∷◌, refl, sym, ap, ◌∙◌, subst, arith, inl, inr}
-use Rattle.std.specs.Prelude.{ℤ, pos, Bool, true, false, not, IsTrue, nat_eq, Option, Some, None}
+use Rattle.std.proofs.Common.{◌≡◌, ℕ, List, refl, sym, ap, ◌∙◌, subst, arith}
+use Rattle.std.specs.Prelude.{pos, Bool, true, false, IsTrue, Some}
 use Rattle.mm_base.specs.declared.num.Trap.TheVariants as by
-use Rattle.mm_meaning.specs.Run as runs
-use Rattle.mm_meaning.specs.Run.{Run, Gives, Stops}
+use Rattle.mm_meaning.specs.Run.{Gives, Stops}
 use Rattle.mm_classes.specs.declared.class.Ty.{Ty}
 use Rattle.mm_classes.specs.declared.class.Ty.TheVariants as ty
 use Rattle.mm_classes.specs.Subobjects.{Path}
@@ -14,7 +13,7 @@ use Rattle.mm_core.specs.State.{Value, Truth, Number, Word, Null, At, Nothing, O
 use Rattle.mm_core.specs.Objects.{get_field}
 use Rattle.mm_core.specs.Moves.{tested_pointer}
 use Rattle.mm_core.specs.Virtual.{Calls}
-use Rattle.mm_core.specs.Meaning.{does, value_of}
+use Rattle.mm_core.specs.Meaning.{does}
 use Rattle.mm_core.specs.Valid.{type_of, IsFieldOf}
 use Rattle.mm_core.specs.Fits.{Shows, Fits}
 use Rattle.mm_core.specs.Keeps.{Known}
@@ -28,20 +27,17 @@ use Rattle.mm_c.specs.declared.tree.CExpr.TheVariants.{Atom, Binary, Load}
 use Rattle.mm_c.specs.Memory.{load}
 use Rattle.mm_c.specs.CMeaning as c
 use Rattle.mm_c.specs.CMeaning.{bit_of, flows_of}
-use Rattle.mm_c.specs.Tree.{Code, done, ◌⨾◌}
+use Rattle.mm_c.specs.Tree.{Code, done}
 use Rattle.mm_agree.specs.Agree.{both_give, cell_of, CallsAgree, HasPrelude}
-use Rattle.mm_agree.specs.Layouts.{IsLayout}
 use Rattle.mm_agree.proofs.Heaps.{load_field}
-use Rattle.mm_agree.proofs.Steps.{AgreeOn, after, agree_ran, gives_ran, set_ran, op_gives, with_value}
+use Rattle.mm_agree.proofs.Steps.{AgreeOn, after, agree_ran, gives_ran, op_gives}
 use Rattle.mm_simulate.specs.Names.{temporary}
-use Rattle.mm_simulate.specs.Lowered.{plain, i_, p_, of_, set, only_if, trap_code, lowered}
+use Rattle.mm_simulate.specs.Lowered.{plain, i_, p_, set, only_if, trap_code, lowered}
 use Rattle.mm_simulate.specs.LoweredObjects.{past, null_trap, load_code}
-use Rattle.mm_simulate.proofs.Names.{kept, written}
 use Rattle.mm_simulate.proofs.Stores.{Frame, g, a, c_value, Stores, Keeps, Holds, holds_written, set_agrees, core}
 use Rattle.mm_simulate.proofs.Tests.{tested_set}
 use Rattle.mm_simulate.proofs.Operators.{trap_unless, stores_near, keeps_near}
-use Rattle.mm_simulate.proofs.Nodes as nodes
-use Rattle.mm_simulate.proofs.Nodes.{Claim, IsFine, Fitted, full, value_at, is_same}
+use Rattle.mm_simulate.proofs.Nodes.{Claim, IsFine, full, value_at, is_same}
 
 -- what a right side loads
 load_right : (around : c.Around) (u : c.Store) (k : ℕ) (y : CCell) (p : List ℕ) (n : ℕ) (v : CValue) → load u.state.memory y (u.names p) n ≡ Some v → c.right_of around (Load y (past p n)) u k ≡ Gives v u k
@@ -80,10 +76,10 @@ module _ (m : Frame) (calls : Calls) (around : c.Around) (has : HasPrelude aroun
     field_value f d v fits is e = absurd fits
 
   -- the pointer that stands in t
-  ref_in : (t : ℕ) (old : c.Names) (e : Expr) (d : ℕ) (v : Value) (s : Store) (u : c.Store) → type_of (a m) e ≡ ty.Ref d → Holds m t old (type_of (a m) e) v s u → u.names (p_ t) ≡ c_value m s.state.objects v
+  pub ref_in : (t : ℕ) (old : c.Names) (e : Expr) (d : ℕ) (v : Value) (s : Store) (u : c.Store) → type_of (a m) e ≡ ty.Ref d → Holds m t old (type_of (a m) e) v s u → u.names (p_ t) ≡ c_value m s.state.objects v
   ref_in t old e d v s u is p = value_at m calls around has known ok agree t old (type_of (a m) e) (ty.Ref d) v s u (is_same m calls around has known ok agree _ _ is) refl p
 
-  fits_as : (x y : Ty) (xs : List Object) (v : Value) → x ≡ y → Fits (g m) xs x v → Fits (g m) xs y v
+  pub fits_as : (x y : Ty) (xs : List Object) (v : Value) → x ≡ y → Fits (g m) xs x v → Fits (g m) xs y v
   fits_as x y xs v e f = subst (λ z. Fits (g m) xs z v) e f
 
   pub field_agrees : (f : ℕ) (e : Expr) (t : ℕ) → C t e → C t (field f e)
