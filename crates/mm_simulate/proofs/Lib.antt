@@ -24,3 +24,4 @@ pub mod Decimals
 pub mod Objects
 pub mod ObjectTests
 pub mod ObjectStores
+pub mod ObjectSteps

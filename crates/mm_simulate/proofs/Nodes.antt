@@ -143,7 +143,7 @@ no_conversion : (t : Ty) (x : Target) → is_arithmetic t ≡ false → (IsTrue 
 no_conversion t x e f (inl n) = let z : true ≡ false = sym n ∙ e in cc
 no_conversion t x e f (inr n) = f n.0 n.1
 
-no_number : (t : Ty) → IsTrue (is_number t) → is_number t ≡ false → ⊥
+pub no_number : (t : Ty) → IsTrue (is_number t) → is_number t ≡ false → ⊥
 no_number t n e = let z : true ≡ false = sym n ∙ e in cc
 
 reference_is : (t : Ty) → IsTrue (is_number t) → IsTrue (is_reference t) → ⊥
@@ -154,11 +154,11 @@ reference_is ty.Unsigned n r = cc
 reference_is (ty.Ptr d) n r = no_number (ty.Ptr d) n refl
 reference_is (ty.Ref d) n r = no_number (ty.Ref d) n refl
 
-abbrev step_int : Change → ℤ
+abbrev pub step_int : Change → ℤ
 step_int Up = greatest_int
 step_int Down = least_int
 
-abbrev stepped : Change → ℤ → ℤ
+abbrev pub stepped : Change → ℤ → ℤ
 stepped Up z = z +ℤ pos 1
 stepped Down z = z -ℤ pos 1
 
@@ -534,36 +534,36 @@ module _ (m : Frame) (calls : Calls) (around : c.Around) (has : HasPrelude aroun
 
   -- ---- steps
 
-  step_bit : (change : Change) (z : ℤ) → IsTrue (is_int z) → (c.on_ints o.Equal z (step_int change) ≡ c.truth (not (is_int (stepped change z))))
+  pub step_bit : (change : Change) (z : ℤ) → IsTrue (is_int z) → (c.on_ints o.Equal z (step_int change) ≡ c.truth (not (is_int (stepped change z))))
   step_bit Up z f = ap c.truth (at_greatest z f)
   step_bit Down z f = ap c.truth (at_least z f)
 
-  step_atom : (change : Change) (names : c.Names) → c.atom_of names (step_end change) ≡ holds.Int (step_int change)
+  pub step_atom : (change : Change) (names : c.Names) → c.atom_of names (step_end change) ≡ holds.Int (step_int change)
   step_atom Up names = refl
   step_atom Down names = refl
 
-  step_gives : (change : Change) (z : ℤ) → c.on_ints (change_in_c change) z (pos 1) ≡ c.exact (stepped change z)
+  pub step_gives : (change : Change) (z : ℤ) → c.on_ints (change_in_c change) z (pos 1) ≡ c.exact (stepped change z)
   step_gives Up z = refl
   step_gives Down z = refl
 
-  step_is : (change : Change) (z : ℤ) → changed change (Number z) ≡ number_or (int_of (stepped change z))
+  pub step_is : (change : Change) (z : ℤ) → changed change (Number z) ≡ number_or (int_of (stepped change z))
   step_is Up z = refl
   step_is Down z = refl
 
-  exact_some : (z : ℤ) → is_int z ≡ true → c.exact z ≡ Some (holds.Int z)
+  pub exact_some : (z : ℤ) → is_int z ≡ true → c.exact z ≡ Some (holds.Int z)
   exact_some z e = rw e refl
 
-  step_over : (z : ℤ) → not (is_int z) ≡ true → number_or (int_of z) ≡ Err by.Overflow
+  pub step_over : (z : ℤ) → not (is_int z) ≡ true → number_or (int_of z) ≡ Err by.Overflow
   step_over z e = rw (flip (is_int z) e) refl
     where
       flip : (b : Bool) → not b ≡ true → b ≡ false
       flip true e = cc
       flip false e = refl
 
-  step_ok : (z : ℤ) → is_int z ≡ true → number_or (int_of z) ≡ Ok (Number z)
+  pub step_ok : (z : ℤ) → is_int z ≡ true → number_or (int_of z) ≡ Ok (Number z)
   step_ok z e = rw e refl
 
-  unflip : (b : Bool) → not b ≡ false → b ≡ true
+  pub unflip : (b : Bool) → not b ≡ false → b ≡ true
   unflip true e = refl
   unflip false e = cc
 

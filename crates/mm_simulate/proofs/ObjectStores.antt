@@ -65,7 +65,7 @@ module _ (m : Frame) (lays : IsLayout (g m) m.layout) (around : c.Around) (d o' 
   grew : Grew s.state.objects put_source.state.objects
   grew = put_grew (g m) m.layout lays s.state u.state h.states o' q f v shows.there
 
-  put_stores : Stores m put_source put_c
+  pub put_stores : Stores m put_source put_c
   put_stores = stores_on m s u put_source.state put_c.state grew put.2 h
 
   fitted_in_cell : (t : Ty) → Fits (g m) s.state.objects t v → c.fitted_in (cell_of t) (c_value m s.state.objects v) ≡ c_value m s.state.objects v
@@ -76,7 +76,7 @@ module _ (m : Frame) (lays : IsLayout (g m) m.layout) (around : c.Around) (d o' 
   fitted_in_cell (ty.Ptr x) f' = fitted_same kind.Pointer (c_value m s.state.objects v) (kind_fits (g m) m.layout s.state.objects (ty.Ptr x) v f')
   fitted_in_cell (ty.Ref x) f' = fitted_same kind.Pointer (c_value m s.state.objects v) (kind_fits (g m) m.layout s.state.objects (ty.Ref x) v f')
 
-  put_ran : (p w : List ℕ) → u.names p ≡ c_value m s.state.objects (At o' q) → u.names w ≡ c_value m s.state.objects v → Fits (g m) s.state.objects type v → Ran around (store_code p type place w) u k put_c
+  pub put_ran : (p w : List ℕ) → u.names p ≡ c_value m s.state.objects (At o' q) → u.names w ≡ c_value m s.state.objects v → Fits (g m) s.state.objects type v → Ran around (store_code p type place w) u k put_c
   put_ran p w ep ew fits = record { by = rw (ep, ew) (rw (fitted_in_cell type fits) (rw put.1 refl)) }
 
   still_put : Fits (g m) s.state.objects type v → c_value m s.state.objects v ≡ c_value m put_source.state.objects v

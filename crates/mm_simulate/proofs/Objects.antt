@@ -64,7 +64,7 @@ module _ (m : Frame) (calls : Calls) (around : c.Around) (has : HasPrelude aroun
   -- ---- fields
 
   module _ (t : ℕ) (old : c.Names) (s : Store) (u : c.Store) (k : ℕ) (fine : IsGood s) (h : Stores m s u) (keeps : Keeps m t old u) where
-    field_at : (f d o' : ℕ) (q : Path) → Shows (g m) s.state.objects d o' q → IsFieldOf (g m) d f → u.names (p_ t) ≡ c_value m s.state.objects (At o' q) → AgreeOn (Holds m t old (field_type (g m) d f)) (does (get_field f (At o' q)) s k) (flows_of around (load_code (p_ t) t (field_type (g m) d f) (m.layout.member d f)) u k)
+    pub field_at : (f d o' : ℕ) (q : Path) → Shows (g m) s.state.objects d o' q → IsFieldOf (g m) d f → u.names (p_ t) ≡ c_value m s.state.objects (At o' q) → AgreeOn (Holds m t old (field_type (g m) d f)) (does (get_field f (At o' q)) s k) (flows_of around (load_code (p_ t) t (field_type (g m) d f) (m.layout.member d f)) u k)
     field_at f d o' q shows is e =
         let n = c_value m s.state.objects ((object_at s.state.objects o').fields q f) in
         let loaded : load u.state.memory (cell_of (field_type (g m) d f)) (u.names (p_ t)) (m.layout.member d f) ≡ Some n = rw e (load_field (g m) m.layout s.state u.state h.states d o' q shows f is) in
